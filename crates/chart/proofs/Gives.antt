@@ -1,0 +1,174 @@
+-- What holds of a reading if it is not refused, put together along `then`.
+-- Assumes nothing.
+use Prim.Native.Nat.{ℕ, zero, suc, _+_, _-_, _*_, _≤_, _<_}
+use native.Mathlib.Omega.{arith}
+use native.Mathlib.Numerals.{add-one}
+use native.Mathlib.Nat.{mul-suc}
+use mathlib.Core.Path.{_≡_, refl, ap, sym, _∙_}
+use mathlib.Core.Bool.{Bool, true, false, cond}
+use mathlib.Core.List.{List, [], _∷_, _++_}
+use lib.Dec.{eqb, leb, ltb}
+use lib.ListN.{length, getD, take, drop}
+use lib.Seq.{drop-cons}
+use borrow.Author.Tests.{ltb-true, ltb-false, leb-true, eqb-true}
+use Rattle.chart.specs.Chart.{Part, End, Node, Counts, Board, endsOf, Refusal, Got, got, refused, _then_, byte, many, isText, textByte, text, end, counts, items, body, entry, bodies}
+use Rattle.laws.specs.Lists.{All}
+use Rattle.chart.specs.Accepted.{Fitting}
+
+abbrev pub Gives : {A : Type 0} → Got A → (A → ℕ → Type 0) → Type 0
+Gives (got x at) P = P x at
+Gives (refused r) P = Unit {0}
+
+pub gives-then : {A B : Type 0} (g : Got A) (f : A → ℕ → Got B) (P : A → ℕ → Type 0) (Q : B → ℕ → Type 0)
+    → Gives g P → ((x : A) (at : ℕ) → P x at → Gives (f x at) Q) → Gives (g then f) Q
+gives-then (got x at) f P Q p q = q x at p
+gives-then (refused r) f P Q p q = tt
+
+pub gives-if : {A : Type 0} (b : Bool) (g : Got A) (r : Refusal) (Q : A → ℕ → Type 0) → (b ≡ true → Gives g Q) → Gives (cond b g (refused r)) Q
+gives-if true g r Q p = p refl
+gives-if false g r Q p = tt
+
+-- the byte is inside the chart
+pub record Byte (s : List ℕ) (at : ℕ) (b e : ℕ) : Type 0 where
+  pub after : e ≡ at + 1
+  pub inside : e ≤ length s
+  pub is : b ≡ getD s at 0
+
+pub byte-gives : (s : List ℕ) (at : ℕ) → Gives (byte s at) (Byte s at)
+byte-gives s at = gives-if (ltb at (length s)) (got (getD s at 0) (at + 1)) _ (Byte s at) (λ e. let l : at < length s = ltb-true at (length s) e in record { after = refl; inside = omega arith; is = refl })
+
+-- a text byte, with what stands after it
+pub record TextByte (s : List ℕ) (at : ℕ) (b e : ℕ) : Type 0 where
+  pub byte : Byte s at b e
+  pub text : isText b ≡ true
+
+text-byte-gives : (s : List ℕ) (at : ℕ) → Gives (textByte s at) (TextByte s at)
+text-byte-gives s at =
+    gives-then (byte s at) _ (Byte s at) _ (byte-gives s at)
+    (λ b e h. gives-if (isText b) (got b e) _ (TextByte s at) (λ t. record { byte = h; text = t }))
+
+-- the k bytes from at on are text bytes
+abbrev pub Texts : List ℕ → ℕ → ℕ → Type 0
+Texts s at k = All (λ b. isText b ≡ true) (take k (drop at s))
+
+-- k text bytes
+pub record Bytes (s : List ℕ) (at k : ℕ) (bs : List ℕ) (e : ℕ) : Type 0 where
+  pub after : e ≡ at + k
+  pub inside : at ≤ length s → e ≤ length s
+  pub texts : Texts s at k
+
+texts-more : (s : List ℕ) (at k b e : ℕ) → TextByte s at b e → Texts s e k → Texts s at (suc k)
+texts-more s at k b e h r =
+    let l : at < length s = omega (arith, h .byte .after, h .byte .inside) in
+    let f : e ≡ suc at = h .byte .after ∙ add-one at in
+    rw (drop-cons s at 0 l) (rw (h .byte .is) at (h .text), rw f at r)
+
+pub bytes-give : (k : ℕ) (s : List ℕ) (at : ℕ) → Gives (many k (textByte s) at) (Bytes s at k)
+bytes-give zero s at = record { after = omega arith; inside = λ h. h; texts = tt }
+bytes-give (suc k) s at =
+    gives-then (textByte s at) _ (TextByte s at) _ (text-byte-gives s at)
+    (λ b e h. gives-then (many k (textByte s) e) _ (Bytes s e k) _ (bytes-give k s e)
+    (λ bs f g.
+    let i : f ≤ length s = g .inside (h .byte .inside) in
+    record { after = omega (arith, h .byte .after); inside = λ l. i; texts = texts-more s at k b e h (g .texts) }))
+
+-- an item of at most m bytes, from at to e
+pub record One {A : Type 0} (P : A → Type 0) (s : List ℕ) (m at : ℕ) (x : A) (e : ℕ) : Type 0 where
+  pub fits : P x
+  pub inside : e ≤ length s
+  pub size : e ≤ at + m
+
+-- k of them
+pub record Many {A : Type 0} (P : A → Type 0) (s : List ℕ) (m at k : ℕ) (xs : List A) (e : ℕ) : Type 0 where
+  pub each : All P xs
+  pub count : length xs ≡ k
+  pub inside : at ≤ length s → e ≤ length s
+  pub size : e ≤ at + m * k
+
+wider : (m k at e f : ℕ) → e ≤ at + m → f ≤ e + m * k → f ≤ at + m * suc k
+wider m k at e f h r = omega (arith, mul-suc m k)
+
+pub many-give : {A : Type 0} (k : ℕ) (P : A → Type 0) (s : List ℕ) (m : ℕ) (item : ℕ → Got A) → ((at : ℕ) → Gives (item at) (One P s m at))
+    → (at : ℕ) → Gives (many k item at) (Many P s m at k)
+many-give zero P s m item g at = record { each = tt; count = refl; inside = λ h. h; size = omega arith }
+many-give (suc k) P s m item g at =
+    gives-then (item at) _ (One P s m at) _ (g at)
+    (λ x e h. gives-then (many k item e) _ (Many P s m e k) _ (many-give k P s m item g e)
+    (λ xs f r. record { each = (h .fits, r .each); count = ap suc (r .count); inside = λ l. r .inside (h .inside); size = wider m k at e f (h .size) (r .size) }))
+
+pub text-gives : (s : List ℕ) (at : ℕ) → Gives (text s at) (One (Fitting s) s 25 at)
+text-gives s at =
+    gives-then (byte s at) _ (Byte s at) _ (byte-gives s at)
+    (λ len begin h. gives-if (leb len 24) _ _ _
+    (λ t. gives-then (many len (textByte s) begin) _ (Bytes s begin len) _ (bytes-give len s begin)
+    (λ bs e g.
+    let l : len ≤ 24 = leb-true len 24 t in
+    let i : e ≤ length s = g .inside (h .inside) in
+    record { fits = record { short = l; inside = omega arith; bytes = g .texts }; inside = i; size = omega arith })))
+
+-- the text of a source or a sink
+abbrev pub EndFits : List ℕ → End → Type 0
+EndFits s x = Fitting s (x .text)
+
+pub end-gives : (s : List ℕ) (at : ℕ) → Gives (end s at) (One (EndFits s) s 26 at)
+end-gives s at =
+    gives-then (byte s at) _ (Byte s at) _ (byte-gives s at)
+    (λ to e h. gives-then (text s e) _ (One (Fitting s) s 25 e) _ (text-gives s e)
+    (λ t f g. record { fits = g .fits; inside = g .inside; size = omega arith }))
+
+-- a node, its targets not yet judged
+pub record Shaped (s : List ℕ) (p : Node) : Type 0 where
+  pub sources : All (EndFits s) (p .sources)
+  pub lines : All (Fitting s) (p .lines)
+  pub few : length (p .lines) ≤ 4
+  pub sinks : All (EndFits s) (p .sinks)
+
+-- its body, from at to e
+pub record Body (s : List ℕ) (at : ℕ) (p : Node) (e : ℕ) : Type 0 where
+  pub shaped : Shaped s p
+  pub inside : e ≤ length s
+  pub size : e ≤ at + 103 + 26 * (length (p .sources) + length (p .sinks))
+
+pub record Counted (s : List ℕ) (at : ℕ) (c : Counts) (e : ℕ) : Type 0 where
+  pub few : c .lines ≤ 4
+  pub after : e ≡ at + 3
+  pub inside : e ≤ length s
+
+counts-give : (s : List ℕ) (at : ℕ) → Gives (counts s at) (Counted s at)
+counts-give s at =
+    gives-then (byte s at) _ (Byte s at) _ (byte-gives s at)
+    (λ i a ha. gives-then (byte s a) _ (Byte s a) _ (byte-gives s a)
+    (λ j b hb. gives-if (leb j 4) _ _ _
+    (λ t. gives-then (byte s b) _ (Byte s b) _ (byte-gives s b)
+    (λ k c hc. record { few = leb-true j 4 t; after = omega arith; inside = hc .inside }))))
+
+pub body-gives : (s : List ℕ) (at : ℕ) → Gives (body s at) (Body s at)
+body-gives s at =
+    gives-then (counts s at) _ (Counted s at) _ (counts-give s at)
+    (λ n c hc. gives-then (many (n .sources) (end s) c) _ (Many (EndFits s) s 26 c (n .sources)) _ (many-give (n .sources) (EndFits s) s 26 (end s) (end-gives s) c)
+    (λ xs d hd. gives-then (many (n .lines) (text s) d) _ (Many (Fitting s) s 25 d (n .lines)) _ (many-give (n .lines) (Fitting s) s 25 (text s) (text-gives s) d)
+    (λ ls e he. gives-then (many (n .sinks) (end s) e) _ (Many (EndFits s) s 26 e (n .sinks)) _ (many-give (n .sinks) (EndFits s) s 26 (end s) (end-gives s) e)
+    (λ ys f hf.
+    let i₁ : d ≤ length s = hd .inside (hc .inside) in
+    let i₂ : e ≤ length s = he .inside i₁ in
+    let i₃ : f ≤ length s = hf .inside i₂ in
+    record {
+      shaped = record { sources = hd .each; lines = he .each; few = omega arith; sinks = hf .each };
+      inside = i₃;
+      size = omega arith;
+    }))))
+
+-- m bodies, from at to e
+pub record Bodies (s : List ℕ) (m at : ℕ) (ps : Board) (e : ℕ) : Type 0 where
+  pub shaped : All (Shaped s) ps
+  pub count : length ps ≡ m
+  pub inside : at ≤ length s → e ≤ length s
+  pub size : e ≤ at + 103 * m + 26 * endsOf ps
+
+pub bodies-give : (m : ℕ) (s : List ℕ) (k at : ℕ) → Gives (bodies m s k at) (Bodies s m at)
+bodies-give zero s k at = record { shaped = tt; count = refl; inside = λ h. h; size = omega arith }
+bodies-give (suc m) s k at =
+    gives-if (eqb (entry s k) at) _ _ _
+    (λ t. gives-then (body s at) _ (Body s at) _ (body-gives s at)
+    (λ p e h. gives-then (bodies m s (suc k) e) _ (Bodies s m e) _ (bodies-give m s (suc k) e)
+    (λ ps f g. record { shaped = (h .shaped, g .shaped); count = ap suc (g .count); inside = λ l. g .inside (h .inside); size = omega arith })))

@@ -1,0 +1,37 @@
+-- What an accepted chart has: the limits of document 01, module 1, as the crates above use them.
+-- Assumes nothing.
+use Prim.Native.Nat.{ℕ, _+_, _≤_, _<_}
+use mathlib.Core.Path.{_≡_}
+use mathlib.Core.Bool.{true}
+use mathlib.Core.List.{List}
+use lib.ListN.{length, getD, take, drop}
+use Rattle.laws.specs.Lists.{All}
+use Rattle.chart.specs.Chart.{Part, End, Node, Board, isText, endsOf}
+
+-- 'Lengths are 0 to 24 .. text bytes 32 to 126', and the text is a part of the chart
+pub record Fitting (s : List ℕ) (t : Part) : Type 0 where
+  pub short : t .len ≤ 24
+  pub inside : t .at + t .len ≤ length s
+  pub bytes : All (λ b. isText b ≡ true) (take (t .len) (drop (t .at) s))
+
+-- a source or a sink of a chart with n nodes
+pub record Aimed (s : List ℕ) (n : ℕ) (e : End) : Type 0 where
+  pub target : e .to < n
+  pub text : Fitting s (e .text)
+
+pub record Formed (s : List ℕ) (n : ℕ) (p : Node) : Type 0 where
+  pub sources : All (Aimed s n) (p .sources)
+  pub lines : All (Fitting s) (p .lines)
+  -- 'lines 0 to 4'
+  pub few : length (p .lines) ≤ 4
+  pub sinks : All (Aimed s n) (p .sinks)
+
+-- the chart s is read as the nodes ps
+pub record Accepted (s : List ℕ) (ps : Board) : Type 0 where
+  -- 'Byte 1 is n, 0 to 32'
+  pub count : length ps ≡ getD s 1 0
+  pub nodes : length ps ≤ 32
+  -- 'sources plus sinks over all nodes at most 64'
+  pub ends : endsOf ps ≤ 64
+  pub formed : All (Formed s (length ps)) ps
+  pub size : length s ≤ 5026

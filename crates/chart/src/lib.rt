@@ -1,0 +1,117 @@
+// Document 01, module 1: a chart's bytes, read into tables. A source or a sink, and a line, is a record with the node that owns it;
+// a node's list is its records in table order.
+ghost use mathlib.Core.Path.{_≡_};
+ghost use Rattle.chart.specs.Chart.{refusal};
+ghost use Rattle.chart.specs.Read.{readOf, judgedOf, IsRead};
+use judge::Outside;
+
+mod judge;
+mod reader;
+mod tables;
+
+// A source or a sink: its node, its target, and its text's place and length in the chart.
+pub struct Item {
+    pub owner: u8,
+    pub to: u8,
+    pub at: u16,
+    pub len: u8,
+}
+
+// The first count items. (While a chart is being read, 65 is 'more than 64'.)
+pub struct Table {
+    pub items: [Item; 64],
+    pub count: usize,
+}
+
+// A line: its text's place in the chart, its node, and its text's length. (In this order it takes 4 bytes.)
+pub struct Line {
+    pub at: u16,
+    pub owner: u8,
+    pub len: u8,
+}
+
+// The first count lines.
+pub struct Lines {
+    pub items: [Line; 128],
+    pub count: usize,
+}
+
+// n nodes, with the sources, the lines and the sinks of all.
+pub struct Board {
+    pub n: u8,
+    pub sources: Table,
+    pub lines: Lines,
+    pub sinks: Table,
+}
+
+// Ready, or document 01's two numbers of the refusal.
+pub enum Answer {
+    Ready,
+    Refused(u8, u32),
+}
+
+// A refused chart's board is the empty one.
+pub struct Outcome {
+    pub answer: Answer,
+    pub board: Board,
+}
+
+// A refused chart.
+fn refused(number: u8, second: u32) -> Outcome
+    ensures { λ r. ⌜ r ≡ readOf (refusal number second) ⌝ }
+{
+    let none = tables::no_nodes(0);
+    Outcome {
+        answer: Answer::Refused(number, second),
+        board: none,
+    }
+}
+
+// Refusals 11 and 12.
+fn judged(board: Board) -> Outcome
+    ensures { λ r. ⌜ r ≡ judgedOf board ⌝ }
+{
+    let sources = board.sources.count;
+    if sources > 64 {
+        return refused(11, 0);
+    }
+    if board.sinks.count > 64 - sources {
+        return refused(11, 0);
+    }
+    let found = judge::first_outside(board);
+    match found {
+        Outside::Nothing => Outcome {
+            answer: Answer::Ready,
+            board: board,
+        },
+        Outside::Target(t) => refused(12, t as u32),
+    }
+}
+
+// A chart: its board, or the first refusal of 1 to 12.
+pub fn read(chart: &[u8]) -> Outcome
+    ensures { λ r. ⌜ IsRead (now (chart .entry)) r ⌝ }
+{
+    if chart.len() < 2 {
+        return refused(1, 0);
+    }
+    if chart[0] != 1 {
+        return refused(2, 0);
+    }
+    let n = chart[1];
+    if n > 32 {
+        return refused(3, 0);
+    }
+    if chart.len() < 2 + 2 * (n as usize) {
+        return refused(4, 0);
+    }
+    let nodes = reader::read_bodies(chart, n);
+    if nodes.refused != 0 {
+        return refused(nodes.refused, 0);
+    }
+    if nodes.end < chart.len() {
+        return refused(10, 0);
+    }
+    let board = nodes.board;
+    judged(board)
+}

@@ -1,0 +1,13 @@
+-- `space`: the length of an array of zeros.
+-- Assumes nothing.
+use Prim.Native.Nat.{ℕ}
+use mathlib.Core.Path.{sym}
+use lib.ListN.{length-replicate}
+use Rattle.lines.proofs.space.Statement.{statement}
+use Rattle.lines.proofs.space.Tie as tie
+
+returns : tie.Need-returns
+returns c = sym (length-replicate {A = ℕ} 1048576 0)
+
+pub space-spec : {M : Type 1} → statement M
+space-spec = tie.close (tie.spec returns)
