@@ -1,0 +1,182 @@
+//! The Rust's answer: a chart is read, handed to the unmodified `grid_process`,
+//! and what comes back is worded as document 01's listing.
+
+use std::panic::{AssertUnwindSafe, catch_unwind};
+
+use chart::{Asked, Body, MAX_BOXES, MAX_POSITION, Refusal};
+use triple_arena::{Arena, ptr_struct, traits::Ptr};
+use triple_arena_render::{
+    DebugNode, RenderError,
+    internal::{RenderGrid, RenderNode, grid_process},
+};
+
+ptr_struct!(Node());
+
+fn text(bytes: &[u8]) -> String {
+    String::from_utf8(bytes.to_vec()).expect("text bytes are 32 to 126")
+}
+
+fn arena(bodies: &[Body]) -> Arena<Node, DebugNode<Node>> {
+    let ends = |ends: &[chart::End]| {
+        ends.iter()
+            .map(|end| (Node::from_number(end.target.into()), text(&end.text)))
+            .collect()
+    };
+    let mut arena = Arena::new();
+    for body in bodies {
+        arena.insert(DebugNode::new(
+            ends(&body.sources),
+            body.lines.iter().map(|line| text(line)).collect(),
+            ends(&body.sinks),
+        ));
+    }
+    arena
+}
+
+/// What `grid_process` gives on these bodies: a grid, refusal 12, or the text
+/// of its panic.
+pub fn run(bodies: &[Body]) -> Result<Result<RenderGrid<Node>, Refusal>, String> {
+    let arena = arena(bodies);
+    match catch_unwind(AssertUnwindSafe(|| grid_process(&arena, true))) {
+        Ok(Ok(grid)) => Ok(Ok(grid)),
+        Ok(Err(RenderError::InvalidPtr(p))) => Ok(Err(Refusal(12, p.inx() as u64))),
+        Ok(Err(e)) => Err(format!("{e:?}")),
+        Err(cause) => {
+            let text = match cause.downcast::<String>() {
+                Ok(text) => *text,
+                Err(cause) => match cause.downcast::<&str>() {
+                    Ok(text) => text.to_string(),
+                    Err(_) => "without a text".to_string(),
+                },
+            };
+            Err(text.replace('\n', " "))
+        }
+    }
+}
+
+/// No panic text on standard error.
+pub fn quiet() {
+    std::panic::set_hook(Box::new(|_| {}));
+}
+
+/// Twice a whole or half number, as a path text has it.
+fn number(out: &mut String, twice: u64) {
+    out.push(' ');
+    out.push_str(&(twice / 2).to_string());
+    if twice % 2 == 1 {
+        out.push_str(".5");
+    }
+}
+
+fn segment(out: &mut String, letter: char, numbers: &[u64]) {
+    if !out.is_empty() {
+        out.push(' ');
+    }
+    out.push(letter);
+    for twice in numbers {
+        number(out, *twice);
+    }
+}
+
+/// Document 01, module 9, on the Rust's boxes and points.
+fn path(boxes: &[(usize, usize, &RenderNode<Node>)], x: u32, y: u32) -> String {
+    let place = |(px, py): (i32, i32)| (2 * (px as u64 + x as u64), 2 * (py as u64 + y as u64));
+    let mut out = String::new();
+    for (_, _, node) in boxes {
+        for (left, top, wx, wy) in &node.rects {
+            let (x0, y0) = place((*left, *top));
+            let (x1, y1) = place((left + wx, top + wy));
+            segment(&mut out, 'M', &[x0, y0]);
+            segment(&mut out, 'L', &[x1, y0]);
+            segment(&mut out, 'L', &[x1, y1]);
+            segment(&mut out, 'L', &[x0, y1]);
+            segment(&mut out, 'Z', &[]);
+        }
+    }
+    for (_, _, node) in boxes {
+        for (input, source, mark) in &node.input_points {
+            let outputs = &boxes[source.inx()].2.output_points;
+            let output = match mark {
+                Some(mark) => Some(outputs[*mark].0),
+                None => outputs.iter().find(|o| o.1 == node.ptr).map(|o| o.0),
+            };
+            if let Some(output) = output {
+                let (ox, oy) = place(output);
+                let (ix, iy) = place(*input);
+                let half = (oy + iy) / 2;
+                segment(&mut out, 'M', &[ox, oy]);
+                segment(&mut out, 'C', &[ox, half, ix, half, ix, iy]);
+            }
+        }
+    }
+    out
+}
+
+/// Texts, input points and output points of every box.
+fn details(boxes: &[(usize, usize, &RenderNode<Node>)]) -> String {
+    let mut out = String::new();
+    for (k, (_, _, node)) in boxes.iter().enumerate() {
+        for (i, ((x, y), size, width, s)) in node.text.iter().enumerate() {
+            out += &format!("text {k} {i} {x} {y} {size} {width} {s}\n");
+        }
+        for (i, ((x, y), source, mark)) in node.input_points.iter().enumerate() {
+            let mark = mark.map_or("-".to_string(), |mark| mark.to_string());
+            out += &format!("in {k} {i} {x} {y} {} {mark}\n", source.inx());
+        }
+        for (i, ((x, y), sink)) in node.output_points.iter().enumerate() {
+            out += &format!("out {k} {i} {x} {y} {}\n", sink.inx());
+        }
+    }
+    out
+}
+
+fn sheet(grid: &RenderGrid<Node>, n: usize, asked: Asked) -> String {
+    let count = grid.dag.len();
+    let cuts = (count - n) / 2;
+    if count > MAX_BOXES {
+        return Refusal(13, 0).line();
+    }
+    let (width, height) = (grid.tot_wx as u64, grid.tot_wy as u64);
+    if width + asked.x as u64 > MAX_POSITION || height + asked.y as u64 > MAX_POSITION {
+        return Refusal(14, 0).line();
+    }
+    let mut boxes = vec![];
+    for (column, cells) in grid.grid.iter().enumerate() {
+        for (row, cell) in cells.iter().enumerate() {
+            if let Some(node) = cell {
+                boxes.push((column, row, node));
+            }
+        }
+    }
+    boxes.sort_by_key(|(_, _, node)| node.ptr.inx());
+    assert!(boxes.iter().enumerate().all(|(k, b)| b.2.ptr.inx() == k));
+    assert_eq!(boxes.len(), count);
+    let (columns, rows) = (grid.grid.len(), grid.grid[0].len());
+    let mut out = format!("sheet {columns} {rows} {width} {height} {count} {cuts}\n");
+    for (k, (column, row, node)) in boxes.iter().enumerate() {
+        assert_eq!(node.rects.len(), 1);
+        let (x, y, wx, wy) = node.rects[0];
+        out += &format!("box {k} {column} {row} {x} {y} {wx} {wy}\n");
+    }
+    let path = path(&boxes, asked.x, asked.y);
+    out += if path.is_empty() { "path" } else { "path " };
+    out += &path;
+    out += "\n";
+    if asked.full {
+        out += &details(&boxes);
+    }
+    out
+}
+
+/// Document 01's listing of a chart, or one line `panic` and its text.
+pub fn listing(chart: &[u8], asked: Asked) -> String {
+    let bodies = match chart::read(chart::listed(chart)) {
+        Ok(bodies) => bodies,
+        Err(refusal) => return refusal.line(),
+    };
+    match run(&bodies) {
+        Ok(Ok(grid)) => sheet(&grid, bodies.len(), asked),
+        Ok(Err(refusal)) => refusal.line(),
+        Err(text) => format!("panic {text}\n"),
+    }
+}

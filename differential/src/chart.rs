@@ -1,0 +1,269 @@
+//! Charts as document 01 words them (module 1): reader with refusals 1 to 11,
+//! writer, short form, hexadecimal, and what the programs share.
+
+use std::io::{BufRead, Read};
+
+pub const MAX_NODES: usize = 32;
+pub const MAX_EDGES: usize = 64;
+pub const MAX_BOXES: usize = 48;
+pub const MAX_LINES: usize = 4;
+pub const MAX_LENGTH: usize = 24;
+/// The listing program reads no more of a chart.
+pub const LISTING_BYTES: usize = 8192;
+/// Neither origin plus width nor origin plus height exceeds it.
+pub const MAX_POSITION: u64 = 8_388_608;
+
+/// A source or a sink as given.
+#[derive(Clone, Debug, PartialEq)]
+pub struct End {
+    pub target: u8,
+    pub text: Vec<u8>,
+}
+
+/// A node as given.
+#[derive(Clone, Debug, Default, PartialEq)]
+pub struct Body {
+    pub sources: Vec<End>,
+    pub lines: Vec<Vec<u8>>,
+    pub sinks: Vec<End>,
+}
+
+/// A refusal: its number and its value.
+#[derive(Clone, Copy, Debug, PartialEq)]
+pub struct Refusal(pub u32, pub u64);
+
+impl Refusal {
+    pub fn line(self) -> String {
+        format!("refused {} {}\n", self.0, self.1)
+    }
+}
+
+struct Reader<'a> {
+    chart: &'a [u8],
+    place: usize,
+}
+
+impl Reader<'_> {
+    /// The next byte, or 6.
+    fn byte(&mut self) -> Result<u8, Refusal> {
+        let byte = *self.chart.get(self.place).ok_or(Refusal(6, 0))?;
+        self.place += 1;
+        Ok(byte)
+    }
+
+    /// A length and its text, or 6, 8, 9.
+    fn text(&mut self) -> Result<Vec<u8>, Refusal> {
+        let length = self.byte()?;
+        if usize::from(length) > MAX_LENGTH {
+            return Err(Refusal(8, 0));
+        }
+        let mut text = vec![];
+        for _ in 0..length {
+            let byte = self.byte()?;
+            if !(32..=126).contains(&byte) {
+                return Err(Refusal(9, 0));
+            }
+            text.push(byte);
+        }
+        Ok(text)
+    }
+
+    fn ends(&mut self, count: u8) -> Result<Vec<End>, Refusal> {
+        let mut ends = vec![];
+        for _ in 0..count {
+            let target = self.byte()?;
+            let text = self.text()?;
+            ends.push(End { target, text });
+        }
+        Ok(ends)
+    }
+
+    fn body(&mut self) -> Result<Body, Refusal> {
+        let sources = self.byte()?;
+        let lines = self.byte()?;
+        if usize::from(lines) > MAX_LINES {
+            return Err(Refusal(7, 0));
+        }
+        let sinks = self.byte()?;
+        let sources = self.ends(sources)?;
+        let lines = (0..lines).map(|_| self.text()).collect::<Result<_, _>>()?;
+        let sinks = self.ends(sinks)?;
+        Ok(Body {
+            sources,
+            lines,
+            sinks,
+        })
+    }
+}
+
+/// Refusals 1 to 11. Targets are not judged here.
+pub fn read(chart: &[u8]) -> Result<Vec<Body>, Refusal> {
+    if chart.len() < 2 {
+        return Err(Refusal(1, 0));
+    }
+    if chart[0] != 1 {
+        return Err(Refusal(2, 0));
+    }
+    let n = usize::from(chart[1]);
+    if n > MAX_NODES {
+        return Err(Refusal(3, 0));
+    }
+    if chart.len() < 2 + 2 * n {
+        return Err(Refusal(4, 0));
+    }
+    let mut reader = Reader {
+        chart,
+        place: 2 + 2 * n,
+    };
+    let mut bodies = vec![];
+    for k in 0..n {
+        let entry = usize::from(chart[2 + 2 * k]) + 256 * usize::from(chart[3 + 2 * k]);
+        if entry != reader.place {
+            return Err(Refusal(5, 0));
+        }
+        bodies.push(reader.body()?);
+    }
+    if reader.place != chart.len() {
+        return Err(Refusal(10, 0));
+    }
+    if edges(&bodies) > MAX_EDGES {
+        return Err(Refusal(11, 0));
+    }
+    Ok(bodies)
+}
+
+/// Sources plus sinks over all nodes.
+pub fn edges(bodies: &[Body]) -> usize {
+    bodies.iter().map(|b| b.sources.len() + b.sinks.len()).sum()
+}
+
+/// The chart of these bodies. A count or entry that does not fit is cut to its
+/// low bits, as a damaged chart may have it.
+pub fn write(bodies: &[Body]) -> Vec<u8> {
+    let mut entries = vec![];
+    let mut rest = vec![];
+    let start = 2 + 2 * bodies.len();
+    let text = |rest: &mut Vec<u8>, text: &[u8]| {
+        rest.push(text.len() as u8);
+        rest.extend(text);
+    };
+    for body in bodies {
+        entries.extend(((start + rest.len()) as u16).to_le_bytes());
+        rest.push(body.sources.len() as u8);
+        rest.push(body.lines.len() as u8);
+        rest.push(body.sinks.len() as u8);
+        for end in &body.sources {
+            rest.push(end.target);
+            text(&mut rest, &end.text);
+        }
+        for line in &body.lines {
+            text(&mut rest, line);
+        }
+        for end in &body.sinks {
+            rest.push(end.target);
+            text(&mut rest, &end.text);
+        }
+    }
+    let mut chart = vec![1, bodies.len() as u8];
+    chart.extend(entries);
+    chart.extend(rest);
+    chart
+}
+
+/// As `0: snk[0, 0]; 1: src[0 "text"] lin["line"]`.
+pub fn short(bodies: &[Body]) -> String {
+    let quoted = |text: &[u8]| format!("\"{}\"", String::from_utf8_lossy(text));
+    let ends = |ends: &[End]| {
+        let one = |end: &End| {
+            if end.text.is_empty() {
+                end.target.to_string()
+            } else {
+                format!("{} {}", end.target, quoted(&end.text))
+            }
+        };
+        ends.iter().map(one).collect::<Vec<_>>().join(", ")
+    };
+    let mut nodes = vec![];
+    for (k, body) in bodies.iter().enumerate() {
+        let mut node = format!("{k}:");
+        if !body.sources.is_empty() {
+            node += &format!(" src[{}]", ends(&body.sources));
+        }
+        if !body.lines.is_empty() {
+            let lines: Vec<_> = body.lines.iter().map(|line| quoted(line)).collect();
+            node += &format!(" lin[{}]", lines.join(", "));
+        }
+        if !body.sinks.is_empty() {
+            node += &format!(" snk[{}]", ends(&body.sinks));
+        }
+        nodes.push(node);
+    }
+    nodes.join("; ")
+}
+
+pub fn to_hex(bytes: &[u8]) -> String {
+    bytes.iter().map(|byte| format!("{byte:02x}")).collect()
+}
+
+pub fn from_hex(line: &str) -> Option<Vec<u8>> {
+    let digits = line
+        .chars()
+        .map(|c| c.to_digit(16).map(|d| d as u8))
+        .collect::<Option<Vec<u8>>>()?;
+    if !digits.len().is_multiple_of(2) {
+        return None;
+    }
+    Some(digits.chunks(2).map(|d| 16 * d[0] + d[1]).collect())
+}
+
+/// Each hex line in turn to `f`. An empty line is the chart of no bytes.
+pub fn each_hex_line(input: impl BufRead, mut f: impl FnMut(Vec<u8>)) -> Result<(), String> {
+    for (i, line) in input.lines().enumerate() {
+        let line = line.map_err(|e| e.to_string())?;
+        let chart = from_hex(&line).ok_or(format!("line {} is not hexadecimal", i + 1))?;
+        f(chart);
+    }
+    Ok(())
+}
+
+/// Standard input as one binary chart.
+pub fn whole_input() -> Vec<u8> {
+    let mut chart = vec![];
+    std::io::stdin()
+        .read_to_end(&mut chart)
+        .expect("standard input");
+    chart
+}
+
+/// The part of a chart that the listing program reads.
+pub fn listed(chart: &[u8]) -> &[u8] {
+    &chart[..chart.len().min(LISTING_BYTES)]
+}
+
+/// What the listing programs are asked for.
+#[derive(Clone, Copy, Default)]
+pub struct Asked {
+    /// Texts, input points and output points too.
+    pub full: bool,
+    pub x: u32,
+    pub y: u32,
+}
+
+/// Reads one chart, or hex lines, and prints `answer` of each.
+pub fn serve(batch: bool, mut answer: impl FnMut(&[u8]) -> String) {
+    use std::io::Write;
+    let mut out = std::io::BufWriter::new(std::io::stdout().lock());
+    if batch {
+        let done = each_hex_line(std::io::stdin().lock(), |chart| {
+            writeln!(out, "{}", answer(&chart)).expect("standard output");
+        });
+        if let Err(message) = done {
+            out.flush().expect("standard output");
+            eprintln!("{message}");
+            std::process::exit(2);
+        }
+    } else {
+        write!(out, "{}", answer(&whole_input())).expect("standard output");
+    }
+    out.flush().expect("standard output");
+}

@@ -1,0 +1,36 @@
+//! Chart in, document 01's listing out, by the Rust.
+
+use chart::Asked;
+
+const USAGE: &str = "oracle [--batch] [--full] [--x N] [--y N] < charts
+  one binary chart on standard input, or with --batch hex lines
+  --full   every box's texts, input points and output points too
+  --x, --y the origin (0 0)";
+
+fn main() {
+    let mut asked = Asked::default();
+    let mut batch = false;
+    let mut args = std::env::args().skip(1);
+    while let Some(arg) = args.next() {
+        let mut number = || args.next().and_then(|n| n.parse().ok());
+        let known = match arg.as_str() {
+            "--batch" => {
+                batch = true;
+                true
+            }
+            "--full" => {
+                asked.full = true;
+                true
+            }
+            "--x" => number().map(|n| asked.x = n).is_some(),
+            "--y" => number().map(|n| asked.y = n).is_some(),
+            _ => false,
+        };
+        if !known {
+            eprintln!("{USAGE}");
+            std::process::exit(2);
+        }
+    }
+    answer::quiet();
+    chart::serve(batch, |chart| answer::listing(chart, asked));
+}
