@@ -21,12 +21,12 @@ use Rattle.chart.specs.Chart.{Part, End, Node, Board, Reading, ready, re
 use Rattle.chart.specs.Tables.{emptyBoard, itemOf, lineOf, boardOf, tablesOf, withNodes}
 use Rattle.chart.specs.Steps.{nodesOf, outsideOf}
 use Rattle.laws.specs.Lists.{All, capped}
-use Rattle.laws.proofs.Lists.{all-map, capped-room, capped-full}
+use Rattle.laws.proofs.Lists.{all-map, all-flat, capped-room, capped-full}
 use Rattle.chart.specs.Accepted.{Fitting, Aimed, Formed, Accepted}
 use Rattle.chart.specs.Read.{readingOf, readOf, Joins, Sound, IsRead, answered, judgedOf}
 use Rattle.chart.proofs.Readers.{number-some}
 use Rattle.chart.proofs.Gives.{Gives, EndFits, Shaped, Bodies, bodies-give}
-use Rattle.chart.proofs.Held.{LowNode, board-held, ends-count, lines-count, table-back, lines-back, all-flat, sourcesFrom, linesFrom, sinksFrom, tables-held}
+use Rattle.chart.proofs.Held.{LowNode, board-held, ends-count, lines-count, table-back, lines-back, sourcesFrom, linesFrom, sinksFrom, tables-held}
 
 -- ---- the targets
 all-append : {A : Type 0} (P : A → Type 0) (xs ys : List A) → All P (xs ++ ys) → All P xs × All P ys
@@ -148,9 +148,9 @@ sound-held s ps a =
       nodes = a .nodes;
       ends = omega (arith, capped-room 64 (length xs) i, capped-room 64 (length ys) k, ends-count 0 ps, a .ends);
       lines = omega (arith, capped-room 128 (length ls) few);
-      sources = rw (table-back xs i) (all-flat n (λ (e : End). e .to < n) (Joins n) itemOf (λ q. q .sources) (λ p e l h. (l, h)) 0 ps (omega arith) (all-map (λ p f. all-map (λ e g. g .target) (p .sources) (f .sources)) ps (a .formed)));
-      owners = rw (lines-back ls few) (all-flat n (Fitting s) (λ (x : Line). x .owner < n) lineOf (λ q. q .lines) (λ p e l h. l) 0 ps (omega arith) (all-map (λ p f. f .lines) ps (a .formed)));
-      sinks = rw (table-back ys k) (all-flat n (λ (e : End). e .to < n) (Joins n) itemOf (λ q. q .sinks) (λ p e l h. (l, h)) 0 ps (omega arith) (all-map (λ p f. all-map (λ e g. g .target) (p .sinks) (f .sinks)) ps (a .formed)));
+      sources = rw (table-back xs i) (all-flat itemOf (λ (q : Node). q .sources) n (λ (e : End). e .to < n) (Joins n) (λ p e l h. (l, h)) 0 ps (omega arith) (all-map (λ p f. all-map (λ e g. g .target) (p .sources) (f .sources)) ps (a .formed)));
+      owners = rw (lines-back ls few) (all-flat lineOf (λ (q : Node). q .lines) n (Fitting s) (λ (x : Line). x .owner < n) (λ p e l h. l) 0 ps (omega arith) (all-map (λ p f. f .lines) ps (a .formed)));
+      sinks = rw (table-back ys k) (all-flat itemOf (λ (q : Node). q .sinks) n (λ (e : End). e .to < n) (Joins n) (λ p e l h. (l, h)) 0 ps (omega arith) (all-map (λ p f. all-map (λ e g. g .target) (p .sinks) (f .sinks)) ps (a .formed)));
     })
 
 sound-of : (s : List ℕ) (g : Reading) → chart s ≡ g → Sound (readOf g .board)

@@ -17,8 +17,8 @@ use Rattle.chart.specs.declared.Lines.{Lines}
 use Rattle.chart.specs.declared.Board.{Board as Tables}
 use Rattle.chart.specs.Chart.{Part, End, Node, Board, endsOf}
 use Rattle.chart.specs.Tables.{noItem, noLine, emptyTable, emptyLines, emptyBoard, endOf, partOf, itemsOf, linesOf, nodeOf, boardFrom, boardOf, pushed, pushedLine, itemOf, lineOf, pushAll, pushLines, withNode, withNodes, tablesOf}
-use Rattle.laws.specs.Lists.{All, one, ownedBy, padded, capped}
-use Rattle.laws.proofs.Lists.{length-one, all-map, all-join, all-made, tabulate-list, owned-append, padded-set, padded-full, take-padded, capped-room, capped-full, capped-past}
+use Rattle.laws.specs.Lists.{All, one, flat, padded, capped}
+use Rattle.laws.proofs.Lists.{length-one, all-map, tabulate-list, owned-flat, padded-set, padded-full, take-padded, capped-room, capped-full, capped-past}
 
 abbrev pub tableOf : List Item → Table
 tableOf xs = record { items = padded 64 noItem xs; count = capped 64 (length xs) }
@@ -57,18 +57,14 @@ pushed-lines xs x = go (ltb (length xs) 128) refl
         rw (a, b, padded-full 128 noLine xs x l)
 
 -- ---- the records of a board, node after node
-abbrev pub flat : {R W : Type 0} → (ℕ → W → R) → (Node → List W) → ℕ → Board → List R
-flat make list p [] = []
-flat make list p (q ∷ qs) = map (make p) (list q) ++ flat make list (suc p) qs
-
 abbrev pub sourcesFrom : ℕ → Board → List Item
-sourcesFrom = flat itemOf (λ q. q .sources)
+sourcesFrom = flat itemOf (λ (q : Node). q .sources)
 
 abbrev pub linesFrom : ℕ → Board → List Line
-linesFrom = flat lineOf (λ q. q .lines)
+linesFrom = flat lineOf (λ (q : Node). q .lines)
 
 abbrev pub sinksFrom : ℕ → Board → List Item
-sinksFrom = flat itemOf (λ q. q .sinks)
+sinksFrom = flat itemOf (λ (q : Node). q .sinks)
 
 push-all : (xs : List Item) (p : ℕ) (es : List End) → pushAll (tableOf xs) p es ≡ tableOf (xs ++ map (itemOf p) es)
 push-all xs p [] = rw (append-nil xs)
@@ -92,41 +88,6 @@ with-nodes n xs ls ys p (q ∷ qs) =
 pub tables-held : (n : ℕ) (ps : Board) → tablesOf n ps ≡ heldIn n (sourcesFrom 0 ps) (linesFrom 0 ps) (sinksFrom 0 ps)
 unfolding tablesOf
 tables-held n ps = with-nodes n [] [] [] 0 ps
-
--- ---- what each node owns of them
-module _ {R W : Type 0} (owner : R → ℕ) (value : R → W) where
-  module _ (make : ℕ → W → R) (its : (p : ℕ) (w : W) → owner (make p w) ≡ p) where
-    owned-other : (p q : ℕ) → (q ≡ p → ⊥) → (ws : List W) → ownedBy owner value p (map (make q) ws) ≡ []
-    owned-other p q n [] = refl
-    owned-other p q n (w ∷ ws) = rw (its q w, ne-eqb q p n) (owned-other p q n ws)
-
-    owned-own : (p : ℕ) (ws : List W) → All (λ w. value (make p w) ≡ w) ws → ownedBy owner value p (map (make p) ws) ≡ ws
-    owned-own p [] a = refl
-    owned-own p (w ∷ ws) a = rw (its p w, eq-eqb p p refl, a .0, owned-own p ws (a .1))
-
-    module _ (list : Node → List W) where
-      owned-before : (p q : ℕ) (qs : Board) → p < q → ownedBy owner value p (flat make list q qs) ≡ []
-      owned-before p q [] h = refl
-      owned-before p q (x ∷ qs) h =
-          owned-append owner value p (map (make q) (list x)) (flat make list (suc q) qs)
-          ∙ rw (owned-other p q (λ e. omega arith) (list x)) (owned-before p (suc q) qs (omega arith))
-
-      -- each value of the board is kept by its record
-      abbrev Kept : Board → Type 0
-      Kept qs = All (λ x. (p : ℕ) → All (λ w. value (make p w) ≡ w) (list x)) qs
-
-      owned-flat : (z : Node) (q i : ℕ) (qs : Board) → i < length qs → Kept qs → ownedBy owner value (q + i) (flat make list q qs) ≡ list (getD qs i z)
-      owned-flat z q i [] h k = absurd (not-suc-le-zero h)
-      owned-flat z q zero (x ∷ qs) h k =
-          let e : q + 0 ≡ q = omega arith in
-          rw e
-          (owned-append owner value q (map (make q) (list x)) (flat make list (suc q) qs)
-          ∙ rw (owned-own q (list x) (k .0 q), owned-before q (suc q) qs (omega arith)) (append-nil (list x)))
-      owned-flat z q (suc i) (x ∷ qs) h k =
-          let e : q + suc i ≡ suc q + i = omega arith in
-          rw e
-          (owned-append owner value (suc q + i) (map (make q) (list x)) (flat make list (suc q) qs)
-          ∙ rw (owned-other (suc q + i) q (λ e. omega arith) (list x)) (owned-flat z (suc q) i qs (le-of-suc-le-suc h) (k .1)))
 
 -- a text whose place fits the record
 abbrev Low : Part → Type 0
@@ -153,9 +114,9 @@ board-back ps a =
     tabulate-list bare (nodeOf (sourcesFrom 0 ps) (linesFrom 0 ps) (sinksFrom 0 ps)) 0 ps
     (λ i l.
     rw (
-      owned-flat (λ (r : Item). r .owner) endOf itemOf (λ p w. refl) (λ q. q .sources) bare 0 i ps l (all-map (λ q h p. all-map (λ e. end-kept p e) (q .sources) (h .sources)) ps a),
-      owned-flat (λ (r : Line). r .owner) partOf lineOf (λ p w. refl) (λ q. q .lines) bare 0 i ps l (all-map (λ q h p. all-map (λ e. part-kept p e) (q .lines) (h .lines)) ps a),
-      owned-flat (λ (r : Item). r .owner) endOf itemOf (λ p w. refl) (λ q. q .sinks) bare 0 i ps l (all-map (λ q h p. all-map (λ e. end-kept p e) (q .sinks) (h .sinks)) ps a),
+      owned-flat (λ (r : Item). r .owner) endOf itemOf (λ p w. refl) (λ (q : Node). q .sources) bare 0 i ps l (all-map (λ q h p. all-map (λ e. end-kept p e) (q .sources) (h .sources)) ps a),
+      owned-flat (λ (r : Line). r .owner) partOf lineOf (λ p w. refl) (λ (q : Node). q .lines) bare 0 i ps l (all-map (λ q h p. all-map (λ e. part-kept p e) (q .lines) (h .lines)) ps a),
+      owned-flat (λ (r : Item). r .owner) endOf itemOf (λ p w. refl) (λ (q : Node). q .sinks) bare 0 i ps l (all-map (λ q h p. all-map (λ e. end-kept p e) (q .sinks) (h .sinks)) ps a),
     ))
 
 -- ---- how many they are
@@ -201,11 +162,3 @@ table-back xs h = rw (capped-room 64 (length xs) h) (take-padded 64 noItem xs h)
 
 pub lines-back : (xs : List Line) → length xs ≤ 128 → linesOf (linesHeld xs) ≡ xs
 lines-back xs h = rw (capped-room 128 (length xs) h) (take-padded 128 noLine xs h)
-
--- what holds of each record of a node holds of all
-pub all-flat : {R W : Type 0} (n : ℕ) (P : W → Type 0) (Q : R → Type 0) (make : ℕ → W → R) (list : Node → List W) → ((p : ℕ) (w : W) → p < n → P w → Q (make p w))
-    → (p : ℕ) (qs : Board) → p + length qs ≤ n → All (λ q. All P (list q)) qs → All Q (flat make list p qs)
-all-flat n P Q make list g p [] h a = tt
-all-flat n P Q make list g p (q ∷ qs) h a =
-    let l : p < n = omega arith in
-    all-join Q (map (make p) (list q)) (flat make list (suc p) qs) (all-made P Q (make p) (λ w. g p w l) (list q) (a .0)) (all-flat n P Q make list g (suc p) qs (omega arith) (a .1))

@@ -2,15 +2,16 @@
 -- Assumes nothing.
 use Prim.Native.Nat.{ℕ, zero, suc, _+_, _-_, _≤_, _<_}
 use native.Mathlib.Omega.{arith}
+use native.Mathlib.Numerals.{add-one}
 use native.Mathlib.Nat.{le-of-suc-le-suc, not-suc-le-zero}
 use mathlib.Core.Path.{_≡_, refl, ap, sym, _∙_}
 use mathlib.Core.Bool.{Bool, true, false, cond}
-use mathlib.Core.List.{List, [], _∷_, _++_, map}
+use mathlib.Core.List.{List, [], _∷_, _++_, map, append-assoc, append-nil}
 use lib.Dec.{eqb, leb}
-use lib.ListN.{length, getD, set, take, replicate, length-append, length-map}
-use lib.Seq.{getD-set-same, getD-set-other}
+use lib.ListN.{length, getD, set, take, drop, replicate, length-append, length-map, drop-of-length-le}
+use lib.Seq.{getD-set-same, getD-set-other, getD-take, drop-cons, length-take-le, sets, sets-eq, take-append-seam}
 use borrow.Author.Tests.{le-leb, lt-leb, eq-eqb, ne-eqb}
-use Rattle.laws.specs.Lists.{All, one, tabulate, keep, ownedBy, padded, capped, stackOf}
+use Rattle.laws.specs.Lists.{All, one, tabulate, keep, ownedBy, joined, flat, padded, capped, stackOf}
 
 -- a count down is one more than the next
 pub one-more : {A : Type 0} (f : ℕ → A) (left : ℕ) → 0 < left → f left ≡ f (suc (left - 1))
@@ -64,6 +65,37 @@ tabulate-list z f q (x ∷ xs) h =
     let e : q ≡ q + 0 = omega arith in
     cc (ap f e, h 0 (omega arith), tabulate-list z f (suc q) xs (λ i l. let d : suc q + i ≡ q + suc i = omega arith in ap f d ∙ h (suc i) (omega arith)))
 
+module _ {A : Type 0} where
+  pub tabulate-same : (f g : ℕ → A) (p k : ℕ) → ((m : ℕ) → p ≤ m → m < p + k → f m ≡ g m) → tabulate f p k ≡ tabulate g p k
+  tabulate-same f g p zero e = refl
+  tabulate-same f g p (suc k) e = cc (e p (omega arith) (omega arith), tabulate-same f g (suc p) k (λ m h l. e m (omega arith) (omega arith)))
+
+  pub tabulate-snoc : (f : ℕ → A) (p k : ℕ) → tabulate f p (suc k) ≡ tabulate f p k ++ one (f (p + k))
+  tabulate-snoc f p zero = let z : p ≡ p + 0 = omega arith in cc (ap f z)
+  tabulate-snoc f p (suc k) = let z : suc p + k ≡ p + suc k = omega arith in cc (tabulate-snoc f (suc p) k, ap f z)
+
+  -- one element of a table of values changes
+  pub tabulate-set : (f g : ℕ → A) (x : A) (p k j : ℕ) → j < k → g (p + j) ≡ x → ((m : ℕ) → (m ≡ p + j → ⊥) → f m ≡ g m) → set (tabulate f p k) j x ≡ tabulate g p k
+  tabulate-set f g x p zero j h e o = absurd (not-suc-le-zero h)
+  tabulate-set f g x p (suc k) zero h e o =
+      let z : p + 0 ≡ p = omega arith in
+      cc (ap g z, e, tabulate-same f g (suc p) k (λ m l b. o m (λ q. omega arith)))
+  tabulate-set f g x p (suc k) (suc j) h e o =
+      let z : suc p + j ≡ p + suc j = omega arith in
+      cc (o p (λ q. omega arith), tabulate-set f g x (suc p) k j (le-of-suc-le-suc h) (ap g z ∙ e) (λ m l. o m (λ q. l (q ∙ sym z))))
+
+pub map-tabulate : {A B : Type 0} (h : A → B) (f : ℕ → A) (p k : ℕ) → map h (tabulate f p k) ≡ tabulate (λ m. h (f m)) p k
+map-tabulate h f p zero = refl
+map-tabulate h f p (suc k) = cc (map-tabulate h f (suc p) k)
+
+-- ---- lists one after the other
+pub joined-append : {A : Type 0} (xss yss : List (List A)) → joined (xss ++ yss) ≡ joined xss ++ joined yss
+joined-append [] yss = refl
+joined-append (xs ∷ xss) yss = rw (joined-append xss yss) (sym (append-assoc xs (joined xss) (joined yss)))
+
+pub joined-snoc : {A : Type 0} (xss : List (List A)) (xs : List A) → joined (xss ++ one xs) ≡ joined xss ++ xs
+joined-snoc xss xs = joined-append xss (one xs) ∙ rw (append-nil xs)
+
 -- ---- the records that a node owns
 pub keep-append : {A : Type 0} (b : Bool) (x : A) (l m : List A) → keep b x l ++ m ≡ keep b x (l ++ m)
 keep-append true x l m = refl
@@ -74,6 +106,62 @@ pub owned-append : {R W : Type 0} (owner : R → ℕ) (value : R → W) (p : ℕ
 owned-append owner value p [] ys = refl
 owned-append owner value p (x ∷ xs) ys =
     rw (owned-append owner value p xs ys) (sym (keep-append (eqb (owner x) p) (value x) (ownedBy owner value p xs) (ownedBy owner value p ys)))
+
+-- ---- the records of a list of nodes, node after node
+module _ {N R W : Type 0} (make : ℕ → W → R) (list : N → List W) where
+  pub flat-append : (p : ℕ) (xs ys : List N) → flat make list p (xs ++ ys) ≡ flat make list p xs ++ flat make list (p + length xs) ys
+  flat-append p [] ys = let e : p ≡ p + 0 = omega arith in ap (λ (q : ℕ). flat make list q ys) e
+  flat-append p (x ∷ xs) ys =
+      let e : suc p + length xs ≡ p + suc (length xs) = omega arith in
+      rw (flat-append (suc p) xs ys, e) (sym (append-assoc (map (make p) (list x)) (flat make list (suc p) xs) (flat make list (p + suc (length xs)) ys)))
+
+  pub flat-tabulate : (f : ℕ → N) (p k : ℕ) → flat make list p (tabulate f p k) ≡ joined (tabulate (λ q. map (make q) (list (f q))) p k)
+  flat-tabulate f p zero = refl
+  flat-tabulate f p (suc k) = cc (flat-tabulate f (suc p) k)
+
+  -- what holds of each record of a node holds of all
+  pub all-flat : (n : ℕ) (P : W → Type 0) (Q : R → Type 0) → ((p : ℕ) (w : W) → p < n → P w → Q (make p w)) → (p : ℕ) (xs : List N) → p + length xs ≤ n → All (λ x. All P (list x)) xs → All Q (flat make list p xs)
+  all-flat n P Q f p [] h a = tt
+  all-flat n P Q f p (x ∷ xs) h a =
+      all-join Q (map (make p) (list x)) (flat make list (suc p) xs)
+      (all-made P Q (make p) (λ w. f p w (omega arith)) (list x) (a .0))
+      (all-flat n P Q f (suc p) xs (omega arith) (a .1))
+
+-- only the lists matter
+pub flat-map : {M N R W : Type 0} (make : ℕ → W → R) (list : N → List W) (f : M → N) (p : ℕ) (xs : List M) → flat make (λ x. list (f x)) p xs ≡ flat make list p (map f xs)
+flat-map make list f p [] = refl
+flat-map make list f p (x ∷ xs) = cc (flat-map make list f (suc p) xs)
+
+-- what each node owns of them
+module _ {R W : Type 0} (owner : R → ℕ) (value : R → W) (make : ℕ → W → R) (its : (p : ℕ) (w : W) → owner (make p w) ≡ p) where
+  made-other : (p q : ℕ) → (q ≡ p → ⊥) → (ws : List W) → ownedBy owner value p (map (make q) ws) ≡ []
+  made-other p q n [] = refl
+  made-other p q n (w ∷ ws) = rw (its q w, ne-eqb q p n) (made-other p q n ws)
+
+  made-own : (p : ℕ) (ws : List W) → All (λ w. value (make p w) ≡ w) ws → ownedBy owner value p (map (make p) ws) ≡ ws
+  made-own p [] a = refl
+  made-own p (w ∷ ws) a = rw (its p w, eq-eqb p p refl, a .0, made-own p ws (a .1))
+
+  module _ {N : Type 0} (list : N → List W) where
+    pub owned-before : (p q : ℕ) (xs : List N) → p < q → ownedBy owner value p (flat make list q xs) ≡ []
+    owned-before p q [] h = refl
+    owned-before p q (x ∷ xs) h =
+        owned-append owner value p (map (make q) (list x)) (flat make list (suc q) xs)
+        ∙ rw (made-other p q (λ e. omega arith) (list x)) (owned-before p (suc q) xs (omega arith))
+
+    -- each value is kept by its record
+    pub owned-flat : (z : N) (q i : ℕ) (xs : List N) → i < length xs → All (λ x. (p : ℕ) → All (λ w. value (make p w) ≡ w) (list x)) xs → ownedBy owner value (q + i) (flat make list q xs) ≡ list (getD xs i z)
+    owned-flat z q i [] h k = absurd (not-suc-le-zero h)
+    owned-flat z q zero (x ∷ xs) h k =
+        let e : q + 0 ≡ q = omega arith in
+        rw e
+        (owned-append owner value q (map (make q) (list x)) (flat make list (suc q) xs)
+        ∙ rw (made-own q (list x) (k .0 q), owned-before q (suc q) xs (omega arith)) (append-nil (list x)))
+    owned-flat z q (suc i) (x ∷ xs) h k =
+        let e : q + suc i ≡ suc q + i = omega arith in
+        rw e
+        (owned-append owner value (suc q + i) (map (make q) (list x)) (flat make list (suc q) xs)
+        ∙ rw (made-other (suc q + i) q (λ e. omega arith) (list x)) (owned-flat z (suc q) i xs (le-of-suc-le-suc h) (k .1)))
 
 -- ---- an array that holds a list from its start
 module _ {A : Type 0} where
@@ -97,6 +185,24 @@ module _ {A : Type 0} where
   take-padded zero z (x ∷ xs) h = absurd (not-suc-le-zero h)
   take-padded (suc m) z (x ∷ xs) h = ap (λ (l : List A). x ∷ l) (take-padded m z xs (le-of-suc-le-suc h))
 
+  pub padded-none : (m : ℕ) (z : A) → padded m z [] ≡ replicate m z
+  padded-none zero z = refl
+  padded-none (suc m) z = ap (λ (l : List A). z ∷ l) (padded-none m z)
+
+  pub padded-is : (m : ℕ) (z : A) (xs : List A) → length xs ≤ m → padded m z xs ≡ xs ++ replicate (m - length xs) z
+  padded-is m z [] h = let e : m ≡ m - 0 = omega arith in padded-none m z ∙ ap (λ (k : ℕ). replicate k z) e
+  padded-is zero z (x ∷ xs) h = absurd (not-suc-le-zero h)
+  padded-is (suc m) z (x ∷ xs) h =
+      let e : m - length xs ≡ suc m - suc (length xs) = omega arith in
+      ap (λ (l : List A). x ∷ l) (padded-is m z xs (le-of-suc-le-suc h) ∙ ap (λ (k : ℕ). xs ++ replicate k z) e)
+
+pub getD-padded : {A : Type 0} (m : ℕ) (z : A) (xs : List A) (i : ℕ) (d : A) → i < m → getD (padded m z xs) i d ≡ getD xs i z
+getD-padded zero z xs i d h = absurd (not-suc-le-zero h)
+getD-padded (suc m) z [] zero d h = refl
+getD-padded (suc m) z [] (suc i) d h = getD-padded m z [] i d (le-of-suc-le-suc h)
+getD-padded (suc m) z (x ∷ xs) zero d h = refl
+getD-padded (suc m) z (x ∷ xs) (suc i) d h = getD-padded m z xs i d (le-of-suc-le-suc h)
+
 pub capped-room : (m k : ℕ) → k ≤ m → capped m k ≡ k
 capped-room m k h = rw (le-leb k m h)
 
@@ -119,3 +225,47 @@ stack-set z fs i x (suc d) h = cc (getD-set-other fs i d x z (omega arith), stac
 -- the last one, stored anew
 pub stack-last : {A : Type 0} (z : A) (fs : List A) (d : ℕ) (x : A) → d < length fs → stackOf z (set fs d x) (suc d) ≡ x ∷ stackOf z fs d
 stack-last z fs d x h = cc (getD-set-same fs d x z h, stack-set z fs d x d (omega arith))
+
+-- ---- a table stored from a place on
+pub sets-append : {A : Type 0} (l : List A) (i : ℕ) (xs ys : List A) → sets l i (xs ++ ys) ≡ sets (sets l i xs) (i + length xs) ys
+sets-append l i [] ys = let e : i ≡ i + 0 = omega arith in ap (λ k. sets l k ys) e
+sets-append l i (x ∷ xs) ys =
+    let e : suc i + length xs ≡ i + suc (length xs) = omega arith in
+    sets-append (set l i x) (suc i) xs ys ∙ ap (λ k. sets (sets (set l i x) (suc i) xs) k ys) e
+
+pub sets-next : {A : Type 0} (f : ℕ → A) (l : List A) (at k : ℕ) → sets l at (tabulate f 0 (k + 1)) ≡ set (sets l at (tabulate f 0 k)) (at + k) (f k)
+sets-next f l at k =
+    let e : at + length (tabulate f 0 k) ≡ at + k = omega (arith, length-tabulate f 0 k) in
+    let d : 0 + k ≡ k = omega arith in
+    ap (λ m. sets l at (tabulate f 0 m)) (add-one k)
+    ∙ ap (sets l at) (tabulate-snoc f 0 k)
+    ∙ sets-append l at (tabulate f 0 k) (one (f (0 + k)))
+    ∙ ap (λ i. set (sets l at (tabulate f 0 k)) i (f (0 + k))) e
+    ∙ ap (λ i. set (sets l at (tabulate f 0 k)) (at + k) (f i)) d
+
+pub take-sets : {A : Type 0} (l xs : List A) → length xs ≤ length l → take (length xs) (sets l 0 xs) ≡ xs
+take-sets l xs h =
+    let k : 0 + length xs ≤ length l = omega arith in
+    ap (take (length xs)) (sets-eq xs l 0 k) ∙ take-append-seam xs (drop (0 + length xs) l)
+
+-- ---- loops that count k down from n: what stands from k - 1 on, of the first n
+pub drop-down : {A : Type 0} (d : A) (n : ℕ) (xs : List A) → n ≤ length xs → (k : ℕ) → 0 < k → k ≤ n → drop (k - 1) (take n xs) ≡ getD xs (k - 1) d ∷ drop k (take n xs)
+drop-down {A} d n xs l k z h =
+    let e : suc (k - 1) ≡ k = omega arith in
+    drop-cons (take n xs) (k - 1) d (omega (arith, length-take-le n xs l))
+    ∙ ap (λ (y : A). y ∷ drop (suc (k - 1)) (take n xs)) (getD-take n xs (k - 1) d (omega arith))
+    ∙ ap (λ (i : ℕ). getD xs (k - 1) d ∷ drop i (take n xs)) e
+
+pub drop-end : {A : Type 0} (n : ℕ) (xs : List A) → n ≤ length xs → drop n (take n xs) ≡ []
+drop-end n xs l = let m : length (take n xs) ≤ n = omega (arith, length-take-le n xs l) in drop-of-length-le (take n xs) m
+
+-- ---- an array of one value
+pub set-replicate : {A : Type 0} (m p : ℕ) (a : A) → set (replicate m a) p a ≡ replicate m a
+set-replicate zero p a = refl
+set-replicate (suc m) zero a = refl
+set-replicate (suc m) (suc p) a = cc (set-replicate m p a)
+
+pub drop-replicate : {A : Type 0} (n m : ℕ) (a : A) → drop n (replicate m a) ≡ replicate (m - n) a
+drop-replicate zero m a = let e : m ≡ m - 0 = omega arith in ap (λ k. replicate k a) e
+drop-replicate (suc n) zero a = let e : 0 ≡ 0 - suc n = omega arith in ap (λ k. replicate k a) e
+drop-replicate (suc n) (suc m) a = let e : m - n ≡ suc m - suc n = omega arith in drop-replicate n m a ∙ ap (λ k. replicate k a) e

@@ -2,7 +2,7 @@
 -- Assumes nothing.
 use Prim.Native.Nat.{ℕ, zero, suc, _+_}
 use mathlib.Core.Bool.{Bool, true, false, cond}
-use mathlib.Core.List.{List, [], _∷_}
+use mathlib.Core.List.{List, [], _∷_, _++_, map}
 use lib.Dec.{eqb, leb}
 use lib.ListN.{getD}
 
@@ -28,6 +28,16 @@ keep false x xs = xs
 abbrev pub ownedBy : {R W : Type 0} → (R → ℕ) → (R → W) → ℕ → List R → List W
 ownedBy owner value p [] = []
 ownedBy owner value p (r ∷ rs) = keep (eqb (owner r) p) (value r) (ownedBy owner value p rs)
+
+-- the lists one after the other
+abbrev pub joined : {A : Type 0} → List (List A) → List A
+joined [] = []
+joined (xs ∷ xss) = xs ++ joined xss
+
+-- the records of a list of nodes, node after node, the first of them number p: `make p` is the record of a value of node p
+abbrev pub flat : {N R W : Type 0} → (ℕ → W → R) → (N → List W) → ℕ → List N → List R
+flat make list p [] = []
+flat make list p (q ∷ qs) = map (make p) (list q) ++ flat make list (suc p) qs
 
 -- an array of m that holds the list from its start, and z past it
 abbrev pub padded : {A : Type 0} → ℕ → A → List A → List A

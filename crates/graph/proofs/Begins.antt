@@ -1,0 +1,209 @@
+-- From the chart's board to the tables, and from the tables to the answer.
+-- Assumes nothing.
+use Prim.Native.Nat.{ℕ, zero, suc, _≤_, _<_}
+use native.Mathlib.Omega.{arith}
+use native.Mathlib.Nat.{zero-add}
+use mathlib.Core.Path.{_≡_, refl, ap, sym, _∙_}
+use mathlib.Core.Bool.{Bool, true, false, cond}
+use mathlib.Core.List.{List, [], _∷_, _++_, map, append-nil}
+use lib.Dec.{eqb, leb}
+use lib.ListN.{length, getD, replicate, getD-replicate}
+use borrow.Author.Tests.{le-leb, lt-leb}
+use Rattle.laws.specs.Lists.{All, tabulate, flat, padded}
+use Rattle.laws.proofs.Lists.{all-made, getD-tabulate, tabulate-same, map-tabulate, capped-room}
+use Rattle.chart.specs.declared.Item.{Item as GivenItem}
+use Rattle.chart.specs.declared.Line.{Line as LineItem}
+use Rattle.chart.specs.declared.Board.{Board as BoardTables}
+use Rattle.chart.specs.declared.Answer.the-variants.{Ready, Refused}
+use Rattle.chart.specs.declared.Outcome.{Outcome as BoardOutcome}
+use Rattle.chart.specs.Chart.{Board, ready as accepted, refusal as refused, chart}
+use Rattle.chart.specs.Chart.{Node as GivenNode}
+use Rattle.chart.specs.Tables.{noLine, linesOf as textsOf, ownedLines, lineOf, boardFrom, boardOf}
+use Rattle.chart.specs.Tables.{itemsOf as endsOf, owned as ownedEnds, nodeOf as givenNodeOf}
+use Rattle.chart.specs.Accepted.{Formed, Accepted}
+use Rattle.chart.specs.Read.{Joins, Sound as SoundBoard, reading, readOf, IsRead}
+use Rattle.chart.proofs.Held.{linesFrom, tables-held, lines-count}
+use Rattle.chart.proofs.Accepts.{accepted as accepts}
+use Rattle.graph.specs.declared.Item.{Item}
+use Rattle.graph.specs.declared.Table.{Table}
+use Rattle.graph.specs.declared.Tables.{Tables}
+use Rattle.graph.specs.declared.Outcome.{Outcome}
+use Rattle.graph.specs.declared.cutting.Explore.{Explore}
+use Rattle.graph.specs.Graph.{given, number, Graph, unmarked, givenNode, givenGraph}
+use Rattle.graph.specs.Completion.{complete}
+use Rattle.graph.specs.Cutting.{Walk, cutting}
+use Rattle.graph.specs.Graphed.{dagOf, ready, refusal, boxed, graphed}
+use Rattle.graph.specs.Tables.{owned, itemsOf, unmarkedItem, nodeOf, linesAt, linesOf, graphFrom, graphOf, Below, Aimed, Completed}
+use Rattle.graph.specs.Explore.{walkOf, CutAll}
+use Rattle.graph.specs.Outcome.{textsFrom, namesOf, sourcesFrom, sinksFrom, tableOf, tablesOf, noNodes, IsAnswer, inOrder, orderedOf, Held, Begun}
+use Rattle.graph.proofs.Cuts.{length-graph}
+use Rattle.graph.proofs.LineLaws.{board-lined}
+use Rattle.graph.proofs.Orders.{sources-ordered, sinks-ordered, names-held, texts-held, done-linked, done-graph}
+
+-- ---- the graph that the board gives
+unmarked-owned : (p : ℕ) (xs : List GivenItem) → owned p (map unmarkedItem xs) ≡ map unmarked (ownedEnds p xs)
+unmarked-owned p [] = refl
+unmarked-owned p (x ∷ xs) = go (unmarked-owned p xs) (eqb (x .owner) p) refl
+  where
+    go : owned p (map unmarkedItem xs) ≡ map unmarked (ownedEnds p xs) → (b : Bool) → eqb (x .owner) p ≡ b → owned p (map unmarkedItem (x ∷ xs)) ≡ map unmarked (ownedEnds p (x ∷ xs))
+    go i true e = rw (e, i)
+    go i false e = rw e i
+
+module _ (b : BoardTables) (sound : SoundBoard b) (x y : Table)
+    (hx : (itemsOf x ≡ map unmarkedItem (endsOf (b .sources))) × (x .count ≡ b .sources .count))
+    (hy : (itemsOf y ≡ map unmarkedItem (endsOf (b .sinks))) × (y .count ≡ b .sinks .count)) where
+  abbrev r : Tables
+  r = record { n = b .n; cuts = 0; names = replicate 48 255; lines = b .lines; sources = x; sinks = y }
+
+  abbrev ts : List LineItem
+  ts = textsOf (b .lines)
+
+  lines-at : (p : ℕ) → p < b .n → getD (linesOf r) p [] ≡ map given (ownedLines p ts)
+  lines-at p h =
+      getD-tabulate (linesAt ts (replicate 48 255)) 0 (b .n) p [] h
+      ∙ ap (linesAt ts (replicate 48 255)) (zero-add p)
+      ∙ ap (λ (m : ℕ). map given (ownedLines p ts) ++ cond (eqb m 255) [] (number m ∷ [])) (getD-replicate 48 p 255 0 (omega (arith, sound .nodes)))
+      ∙ append-nil (map given (ownedLines p ts))
+
+  node-same : (p : ℕ) → p < b .n → nodeOf (linesOf r) (itemsOf x) (itemsOf y) p ≡ givenNode (givenNodeOf (endsOf (b .sources)) ts (endsOf (b .sinks)) p)
+  node-same p h = rw (hx .0, hy .0, lines-at p h, unmarked-owned p (endsOf (b .sources)), unmarked-owned p (endsOf (b .sinks)))
+
+  graph-same : graphOf r ≡ givenGraph (boardOf b)
+  unfolding graphFrom boardFrom
+  graph-same =
+      tabulate-same (nodeOf (linesOf r) (itemsOf x) (itemsOf y)) (λ p. givenNode (givenNodeOf (endsOf (b .sources)) ts (endsOf (b .sinks)) p)) 0 (b .n) (λ p l h. node-same p (omega arith))
+      ∙ sym (map-tabulate givenNode (givenNodeOf (endsOf (b .sources)) ts (endsOf (b .sinks))) 0 (b .n))
+
+  aims : (xs : List GivenItem) → All (Joins (b .n)) xs → Aimed (b .n) (map unmarkedItem xs)
+  aims xs a = all-made (Joins (b .n)) (λ (z : Item). z .to < b .n) unmarkedItem (λ z h. h .1) xs a
+
+  owners : (xs : List GivenItem) → All (Joins (b .n)) xs → Below (b .n) (map unmarkedItem xs)
+  owners xs a = all-made (Joins (b .n)) (λ (z : Item). z .owner < b .n) unmarkedItem (λ z h. h .0) xs a
+
+  pub begun : Begun b r
+  begun =
+      record {
+        charted =
+            record {
+              nodes = sound .nodes;
+              room = omega (arith, hx .1, hy .1, sound .ends);
+              source-aims = rw (hx .0) (aims (endsOf (b .sources)) (sound .sources));
+              sink-aims = rw (hy .0) (aims (endsOf (b .sinks)) (sound .sinks));
+              source-owners = rw (hx .0) (owners (endsOf (b .sources)) (sound .sources));
+              sink-owners = rw (hy .0) (owners (endsOf (b .sinks)) (sound .sinks));
+              line-owners = sound .owners;
+              bare = rw (hx .0) (all-made (Joins (b .n)) (λ (z : Item). z .mark ≡ 0) unmarkedItem (λ z h. refl) (endsOf (b .sources)) (sound .sources));
+              names = refl;
+            };
+        graph = graph-same;
+        cuts = refl;
+        lines = refl;
+      }
+
+-- ---- the answer of an accepted board
+abbrev wholeOf : BoardTables → Walk
+wholeOf b = cutting (complete (givenGraph (boardOf b)))
+
+fewer : (s : List ℕ) (n : ℕ) (ps : Board) → All (Formed s n) ps → All (λ (q : GivenNode). length (q .lines) ≤ 4) ps
+fewer s n [] a = tt
+fewer s n (p ∷ ps) a = (a .0 .few, fewer s n ps (a .1))
+
+texts-are : (ps : Board) → textsFrom 0 (cutting (complete (givenGraph ps)) .graph) ≡ linesFrom 0 ps
+texts-are ps = texts-held (length ps) ps (cutting (complete (givenGraph ps)) .graph) (board-lined ps)
+
+given-few : (s : List ℕ) (ps : Board) → chart s ≡ accepted ps → length (linesFrom 0 ps) ≤ 128
+given-few s ps e = let a : Accepted s ps = accepts s ps e in omega (arith, lines-count 0 ps (fewer s (length ps) ps (a .formed)), a .nodes)
+
+-- at most 128 given lines
+pub few-lines : (s : List ℕ) (ps : Board) → chart s ≡ accepted ps → length (textsFrom 0 (cutting (complete (givenGraph ps)) .graph)) ≤ 128
+few-lines s ps e = rw (texts-are ps) (given-few s ps e)
+
+lines-are : (b : BoardTables) → Held b → b .lines ≡ record { items = padded 128 noLine (textsFrom 0 (wholeOf b .graph)); count = length (textsFrom 0 (wholeOf b .graph)) }
+lines-are b h =
+    let ps : Board = boardOf b in
+    ap (λ (t : BoardTables). t .lines) (h .whole ∙ tables-held (length ps) ps)
+    ∙ rw (texts-are ps, capped-room 128 (length (linesFrom 0 ps)) (given-few (h .chart-bytes) ps (h .read)))
+
+module _ (b : BoardTables) (h : Held b) (t₀ t₁ : Tables) (begin : Begun b t₀) (done : Completed t₀ t₁) where
+  whole-is : cutting (graphOf t₁) ≡ wholeOf b
+  whole-is = ap cutting (done .graph ∙ ap complete (begin .graph))
+
+  pub drawn-refused : (y : Explore) → CutAll t₁ false y → (r : Outcome) → IsAnswer (refusal 13 0) r → IsAnswer (boxed (wholeOf b)) r
+  drawn-refused y o r a = rw (lt-leb (length (wholeOf b .graph)) 48 (rw whole-is at o)) a
+
+  pub drawn-cuts : t₁ .cuts ≡ 0
+  drawn-cuts = done .same .cuts ∙ begin .cuts
+
+  pub drawn-ready : (y : Explore) → CutAll t₁ true y → length (y .tables .names) ≡ 48 → length (y .tables .sources .items) ≡ 88 → length (y .tables .sinks .items) ≡ 88 → (r : Tables) →
+      r ≡ orderedOf (y .tables) →
+      IsAnswer (boxed (wholeOf b)) (record { answer = Ready; graph = r })
+  drawn-ready y o long lx ly r e =
+      let t : Tables = y .tables in
+      let w : walkOf y ≡ wholeOf b = o .2 ∙ whole-is in
+      let g : graphOf t ≡ wholeOf b .graph = ap (λ (u : Walk). u .graph) w in
+      let size : length (graphOf t) ≡ t .n = length-graph (t .n) (linesOf t) (itemsOf (t .sources)) (itemsOf (t .sinks)) in
+      let fits : leb (length (graphOf t)) 48 ≡ true = le-leb (length (graphOf t)) 48 (omega (arith, o .0 .linked .nodes)) in
+      let names : padded 48 255 (namesOf (graphOf t)) ≡ t .names = names-held t long (o .0 .linked .nodes) (o .0 .blank) in
+      let lines : t .lines ≡ record { items = padded 128 noLine (textsFrom 0 (graphOf t)); count = length (textsFrom 0 (graphOf t)) } =
+      o .1 ∙ done .same .lines ∙ begin .lines ∙ lines-are b h ∙ ap (λ (u : Graph). record { items = padded 128 noLine (textsFrom 0 u); count = length (textsFrom 0 u) }) (sym g) in
+      let xs : sourcesFrom 0 (graphOf t) ≡ inOrder (t .n) (itemsOf (t .sources)) = sources-ordered (t .n) (linesOf t) (itemsOf (t .sources)) (itemsOf (t .sinks)) in
+      let ys : sinksFrom 0 (graphOf t) ≡ inOrder (t .n) (itemsOf (t .sinks)) = sinks-ordered (t .n) (linesOf t) (itemsOf (t .sources)) (itemsOf (t .sinks)) in
+      let made : tablesOf (dagOf (walkOf y)) ≡ r = e-of t r e size names lines xs ys in
+      rw (← w, fits)
+      (record {
+        graphs = rw e (ap (λ (u : Graph). ready (record { graph = u; cuts = t .cuts })) (done-graph t (o .0 .linked) lx ly));
+        whole = ap (λ (u : Tables). record { answer = Ready; graph = u }) (sym made);
+        linked = rw e (done-linked t (o .0 .linked) lx ly);
+      })
+    where
+      e-of : (t r : Tables) → r ≡ orderedOf t →
+          length (graphOf t) ≡ t .n → padded 48 255 (namesOf (graphOf t)) ≡ t .names →
+          t .lines ≡ record { items = padded 128 noLine (textsFrom 0 (graphOf t)); count = length (textsFrom 0 (graphOf t)) } →
+          sourcesFrom 0 (graphOf t) ≡ inOrder (t .n) (itemsOf (t .sources)) → sinksFrom 0 (graphOf t) ≡ inOrder (t .n) (itemsOf (t .sinks)) →
+          tablesOf (record { graph = graphOf t; cuts = t .cuts }) ≡ r
+      e-of t r e size names lines xs ys = cc (ap tableOf xs, ap tableOf ys)
+
+-- ---- the answer of `chart::read`
+module _ (s : List ℕ) (o : BoardOutcome) (is : IsRead s o) where
+  pub read-ready : o .answer ≡ Ready → chart s ≡ accepted (boardOf (o .board))
+  read-ready e = sym (is .reads) ∙ ap (λ a. reading a (boardOf (o .board))) e
+
+  pub read-refused : (a c : ℕ) → o .answer ≡ Refused a c → chart s ≡ refused a c
+  read-refused a c e = sym (is .reads) ∙ ap (λ d. reading d (boardOf (o .board))) e
+
+  pub read-held : o .answer ≡ Ready → Held (o .board)
+  read-held e =
+      record {
+        sound = is .sound;
+        chart-bytes = s;
+        read = read-ready e;
+        whole = ap (λ (p : BoardOutcome). p .board) (is .whole ∙ ap readOf (read-ready e));
+      }
+
+  pub graph-ready : o .answer ≡ Ready → (r : Outcome) → IsAnswer (boxed (wholeOf (o .board))) r → IsAnswer (graphed s) r
+  unfolding graphed
+  graph-ready e r a = rw (read-ready e) a
+
+  pub graph-refused : (a c : ℕ) → o .answer ≡ Refused a c → (r : Outcome) → IsAnswer (refusal a c) r → IsAnswer (graphed s) r
+  unfolding graphed
+  graph-refused a c e r x = rw (read-refused a c e) x
+
+-- ---- a refused chart
+pub none-answers : (a c : ℕ) (t : Tables) → t ≡ noNodes → IsAnswer (refusal a c) (record { answer = Refused a c; graph = t })
+none-answers a c t e =
+    rw e
+    (record {
+      graphs = refl;
+      whole = refl;
+      linked =
+          record {
+            nodes = omega arith;
+            source-room = omega arith;
+            sink-room = omega arith;
+            source-owners = tt;
+            sink-owners = tt;
+            source-aims = tt;
+            sink-aims = tt;
+            line-owners = tt;
+          };
+    })

@@ -1,0 +1,24 @@
+-- The crate's own laws.
+pub mod Lists
+pub mod Steps
+pub mod Gains
+pub mod Resumes
+pub mod Cuts
+pub mod Advances
+pub mod Roots
+pub mod Sinks
+pub mod Pairs
+pub mod Lefts
+pub mod Rounds
+pub mod Keeps
+pub mod LineLaws
+pub mod Orders
+pub mod Begins
+pub mod Completes
+pub mod AimLaws
+pub mod MarkLaws
+pub mod TextLaws
+pub mod DepthLaws
+pub mod Gathers
+pub mod RoomLaws
+pub mod EndsLaws

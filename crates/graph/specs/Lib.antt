@@ -1,0 +1,13 @@
+-- The definitions of document 01, modules 2 and 3, on lists.
+pub mod Graph
+pub mod Completion
+pub mod Cutting
+pub mod Graphed
+pub mod Shape
+pub mod Ends
+pub mod Laws
+pub mod Cases
+pub mod Tables
+pub mod Outcome
+pub mod Path
+pub mod Explore

@@ -1,0 +1,123 @@
+// Document 01, modules 2 and 3: the graph of a chart, completed and cut, as tables of records, each record with the node that owns it.
+// A node's list is its records in table order.
+ghost use mathlib.Core.Path.{_≡_};
+ghost use Rattle.chart.specs.Tables.{boardOf};
+ghost use Rattle.graph.specs.Graph.{givenGraph};
+ghost use Rattle.graph.specs.Completion.{complete};
+ghost use Rattle.graph.specs.Cutting.{cutting};
+ghost use Rattle.graph.specs.Graphed.{boxed, refusal};
+ghost use Rattle.graph.specs.Outcome.{Held, IsAnswer, IsGraph};
+ghost use Rattle.graph.specs.Ends.{endsIn};
+use chart::Answer;
+use chart::Board;
+use chart::Lines;
+
+mod completion;
+mod cutting;
+mod reach;
+mod records;
+
+// A source or a sink: its text's place in the chart, its node, the node at the other end, its mark plus 1 (0 for none), and its
+// text's length. (In this order it takes 6 bytes.)
+pub struct Item {
+    pub at: u16,
+    pub owner: u8,
+    pub to: u8,
+    pub mark: u8,
+    pub len: u8,
+}
+
+// The first count items.
+pub struct Table {
+    pub items: [Item; 88],
+    pub count: usize,
+}
+
+// n nodes and the cuts that made the inserted ones; for each node the number of the given node that its line names (255 for none),
+// and the given lines, the sources and the sinks of all.
+pub struct Tables {
+    pub n: usize,
+    pub cuts: u8,
+    pub names: [u8; 48],
+    pub lines: Lines,
+    pub sources: Table,
+    pub sinks: Table,
+}
+
+// A refused chart's tables are the empty ones.
+pub struct Outcome {
+    pub answer: Answer,
+    pub graph: Tables,
+}
+
+// A refused chart.
+fn refused(number: u8, second: u32) -> Outcome
+    ensures { λ r. ⌜ IsAnswer (refusal number second) r ⌝ }
+{
+    let none = records::no_nodes();
+    Outcome {
+        answer: Answer::Refused(number, second),
+        graph: none,
+    }
+}
+
+// An accepted chart's board: completed and cut, or refusal 13.
+fn drawn(board: Board) -> Outcome
+    requires { ⌜ Held board ⌝ }
+    ensures { λ r. ⌜ IsAnswer (boxed (cutting (complete (givenGraph (boardOf board))))) r ⌝ }
+{
+    let given = records::begin(board);
+    let whole = completion::complete(given);
+    let went = cutting::cut_cycles(whole);
+    if !went.ok {
+        return refused(13, 0);
+    }
+    let state = went.state;
+    let tables = state.tables;
+    let done = records::finished(tables);
+    Outcome {
+        answer: Answer::Ready,
+        graph: done,
+    }
+}
+
+// The graph of a chart, completed and cut, or the first refusal of 1 to 13.
+pub fn graph(chart: &[u8]) -> Outcome
+    ensures { λ r. ⌜ IsGraph (now (chart .entry)) r ⌝ }
+{
+    let read = chart::read(chart);
+    let answer = read.answer;
+    let board = read.board;
+    match answer {
+        Answer::Ready => drawn(board),
+        Answer::Refused(number, second) => refused(number, second),
+    }
+}
+
+// The ends of all nodes, sources or sinks, for the stages that read only where they lead: record k is node owner[k]'s and leads to
+// node to[k], for k below count.
+pub struct Ends {
+    pub owner: [u8; 88],
+    pub to: [u8; 88],
+    pub count: usize,
+}
+
+// Where the records of a table lead.
+pub fn ends_of(t: Table) -> Ends
+    ensures { λ r. ⌜ r ≡ endsIn t ⌝ }
+{
+    let mut owner = [0u8; 88];
+    let mut to = [0u8; 88];
+    let mut k = 0usize;
+    while k < 88 {
+        let x = t.items[k];
+        owner[k] = x.owner;
+        to[k] = x.to;
+        k += 1;
+    }
+    Ends {
+        owner: owner,
+        to: to,
+        count: t.count,
+    }
+}

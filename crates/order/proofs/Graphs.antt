@@ -1,0 +1,78 @@
+-- The first columns of a graph, from its tables.
+-- Assumes nothing.
+use Prim.Native.Nat.{ℕ, _+_, _-_, _≤_}
+use native.Mathlib.Omega.{arith}
+use mathlib.Core.Path.{_≡_, refl, ap, sym, subst, _∙_}
+use mathlib.Core.List.{List, _++_}
+use lib.ListN.{length, replicate}
+use Rattle.laws.specs.Lists.{padded}
+use Rattle.laws.proofs.Lists.{padded-is, length-tabulate}
+use Rattle.chart.specs.declared.Answer.{Answer}
+use Rattle.chart.specs.declared.Answer.the-variants.{Ready, Refused}
+use Rattle.graph.specs.declared.Tables.{Tables}
+use Rattle.graph.specs.declared.Outcome.{Outcome as GraphOutcome}
+use Rattle.graph.specs.Graphed.{Graphed, ready as cut, refusal as refused, graphed}
+use Rattle.graph.specs.Outcome.{IsGraph}
+use Rattle.graph.specs.Shape.{Shape, shapeOf}
+use Rattle.graph.specs.Ends.{endsIn, shapeFrom, Linked as EndsLinked}
+use Rattle.graph.specs.Tables.{Linked, graphOf}
+use Rattle.graph.proofs.EndsLaws.{shape-held, linked-held, sources-long, sinks-long}
+use Rattle.order.specs.declared.Outcome.{Outcome}
+use Rattle.order.specs.Chains.{columns}
+use Rattle.order.specs.Claims.{Aimed, EachOnce}
+use Rattle.order.specs.Ordered.{Ordered, ready, refusal, drawn, ordered, outcomeOf, IsOrder}
+use Rattle.order.proofs.Nodes.{each-once}
+use Rattle.order.proofs.Pushed.{shape-size, shape-aimed}
+
+pub columns-long : (g : Shape) → length (columns g) ≡ length g
+unfolding columns
+columns-long g = length-tabulate _ 0 (length g)
+
+module _ (t : Tables) (long : length (t .sources .items) ≡ 88) (long₂ : length (t .sinks .items) ≡ 88) (l : Linked t) where
+  pub sources-linked : EndsLinked (t .n) (endsIn (t .sources))
+  sources-linked = linked-held (t .n) (t .sources) long (l .source-room) (l .nodes) (l .source-owners) (l .source-aims)
+
+  pub sinks-linked : EndsLinked (t .n) (endsIn (t .sinks))
+  sinks-linked = linked-held (t .n) (t .sinks) long₂ (l .sink-room) (l .nodes) (l .sink-owners) (l .sink-aims)
+
+  pub size : length (columns (shapeOf (graphOf t))) ≡ t .n
+  size = rw (← shape-held t) (columns-long (shapeFrom (t .n) (endsIn (t .sources)) (endsIn (t .sinks))) ∙ shape-size (t .n) (endsIn (t .sources)) (endsIn (t .sinks)) sources-linked sinks-linked)
+
+  -- the whole array
+  pub whole : columns (shapeFrom (t .n) (endsIn (t .sources)) (endsIn (t .sinks))) ++ replicate (48 - t .n) 0 ≡ padded 48 0 (columns (shapeOf (graphOf t)))
+  whole =
+      let cs = columns (shapeOf (graphOf t)) in
+      let m : length cs ≤ 48 = omega (arith, size, l .nodes) in
+      ap (λ (g : Shape). columns g ++ replicate (48 - t .n) 0) (shape-held t)
+      ∙ ap (λ (k : ℕ). cs ++ replicate (48 - k) 0) (sym size)
+      ∙ sym (padded-is 48 0 cs m)
+
+  pub once : EachOnce (length (columns (shapeOf (graphOf t)))) (columns (shapeOf (graphOf t)))
+  once =
+      let g = shapeOf (graphOf t) in
+      let a : Aimed (length g) g = subst (λ (h : Shape). Aimed (length h) h) (shape-held t) (shape-aimed (t .n) (endsIn (t .sources)) (endsIn (t .sinks)) sources-linked sinks-linked) in
+      rw (columns-long g) (each-once g a)
+
+-- ---- what `order` promises, from what `graph` does
+module _ (s : List ℕ) (o : GraphOutcome) (a : IsGraph s o) where
+  refused-none : {A : Type 0} (number second : ℕ) (cs : List ℕ) → refusal number second ≡ ready cs → A
+  refused-none number second cs e = let z : _≡_ {A = ℕ} 0 1 = cc in absurd (omega arith)
+
+  ready-same : (cs ds : List ℕ) → ready cs ≡ ready ds → cs ≡ ds
+  ready-same cs ds e = cc
+
+  pub order-refused : (number second : ℕ) → o .answer ≡ Refused number second → (r : Outcome) → r ≡ outcomeOf (refusal number second) → IsOrder s r
+  unfolding ordered
+  order-refused number second q r e =
+      let g : graphed s ≡ refused number second = sym (a .graphs) ∙ rw q in
+      record { whole = rw g e; each = λ cs h. refused-none number second cs (rw g at h) }
+
+  pub order-ready : o .answer ≡ Ready → (r : Outcome) → r ≡ outcomeOf (ready (columns (shapeOf (graphOf (o .graph))))) → IsOrder s r
+  unfolding ordered
+  order-ready q r e =
+      let t = o .graph in
+      let g : graphed s ≡ cut (record { graph = graphOf t; cuts = t .cuts }) = sym (a .graphs) ∙ rw q in
+      record {
+        whole = rw g e;
+        each = λ cs h. subst (λ (ds : List ℕ). EachOnce (length ds) ds) (ready-same (columns (shapeOf (graphOf t))) cs (rw g at h)) (once t (sources-long s o a) (sinks-long s o a) (a .sound .linked));
+      }

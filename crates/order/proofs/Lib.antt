@@ -1,0 +1,20 @@
+-- The laws of the definitions, and what the proofs of the functions share.
+pub mod Times
+pub mod Flat
+pub mod Nodes
+pub mod Fills
+pub mod Stand
+pub mod Lay
+pub mod Sorted
+pub mod Triangle
+pub mod Tables
+pub mod Legs
+pub mod Rounds
+pub mod Bumps
+pub mod InPlace
+pub mod Hold
+pub mod Start
+pub mod Most
+pub mod Pushed
+pub mod Whole
+pub mod Graphs

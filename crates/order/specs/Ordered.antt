@@ -1,0 +1,39 @@
+-- Modules 4 and 5 from the chart's bytes: each node's first column, or the refusal that module 3 gives.
+-- Assumes nothing.
+use Prim.Native.Nat.{ℕ}
+use mathlib.Core.Path.{_≡_}
+use mathlib.Core.List.{List}
+use lib.ListN.{length, replicate}
+use Rattle.laws.specs.Lists.{padded}
+use Rattle.chart.specs.declared.Answer.{Answer}
+use Rattle.chart.specs.declared.Answer.the-variants.{Ready, Refused}
+use Rattle.graph.specs.Graphed.{Graphed, ready as cut, refusal as refused, graphed}
+use Rattle.graph.specs.Shape.{shapeOf}
+use Rattle.order.specs.declared.Outcome.{Outcome}
+use Rattle.order.specs.Chains.{columns}
+use Rattle.order.specs.Claims.{EachOnce}
+
+-- the first columns, or a refusal with document 01's two numbers
+pub data Ordered : Type 0 where
+  ready : List ℕ → Ordered
+  refusal : ℕ → ℕ → Ordered
+
+abbrev pub drawn : Graphed → Ordered
+drawn (cut d) = ready (columns (shapeOf (d .graph)))
+drawn (refused number second) = refusal number second
+
+-- the first columns of a chart's nodes, or the first of the refusals 1 to 13
+unfoldable pub ordered : List ℕ → Ordered
+ordered s = drawn (graphed s)
+
+-- the answer: each field is fixed, past the count too
+abbrev pub outcomeOf : Ordered → Outcome
+outcomeOf (ready cs) = record { answer = Ready; count = length cs; columns = padded 48 0 cs }
+outcomeOf (refusal number second) = record { answer = Refused number second; count = 0; columns = replicate 48 0 }
+
+-- what `order` promises
+pub record IsOrder (s : List ℕ) (r : Outcome) : Type 0 where
+  -- every field of the answer is the definition's
+  pub whole : r ≡ outcomeOf (ordered s)
+  -- the columns are 0, 2, .. 2(N - 1), each node exactly one
+  pub each : (cs : List ℕ) → ordered s ≡ ready cs → EachOnce (length cs) cs

@@ -1,0 +1,66 @@
+// The order of the nodes: module 4 of document 01, pair weights, and module 5, chains.
+ghost use mathlib.Core.Path.{_≡_};
+ghost use Rattle.graph.specs.Tables.{Linked, graphOf};
+ghost use Rattle.graph.specs.Shape.{shapeOf};
+ghost use Rattle.order.specs.Chains.{columns};
+ghost use Rattle.order.specs.Ordered.{ready, refusal, ordered, outcomeOf, IsOrder};
+use chart::Answer;
+use columns::first_of;
+use graph::Tables;
+
+mod chains;
+mod codes;
+mod columns;
+mod keys;
+mod sums;
+mod weights;
+
+// A node, by its number.
+pub struct NodeNumber(pub u8);
+
+// The first count columns, that of node p at p. A refused chart has none.
+pub struct Outcome {
+    pub answer: Answer,
+    pub count: u8,
+    pub columns: [u8; 48],
+}
+
+// A refused chart.
+fn refused(number: u8, second: u32) -> Outcome
+    ensures { λ r. ⌜ r ≡ outcomeOf (refusal number second) ⌝ }
+{
+    let none = [0u8; 48];
+    Outcome {
+        answer: Answer::Refused(number, second),
+        count: 0,
+        columns: none,
+    }
+}
+
+// The first columns of a graph.
+fn drawn(g: Tables) -> Outcome
+    requires { ⌜ Linked g ⌝ }
+    ensures { λ r. ⌜ r ≡ outcomeOf (ready (columns (shapeOf (graphOf g)))) ⌝ }
+{
+    let sources = g.sources;
+    let sinks = g.sinks;
+    let columns = first_of(graph::ends_of(sources), graph::ends_of(sinks), g.n);
+    Outcome {
+        answer: Answer::Ready,
+        count: g.n as u8,
+        columns: columns,
+    }
+}
+
+// Each node's first column, or the first refusal of 1 to 13.
+pub fn order(chart: &[u8]) -> Outcome
+    ensures { λ r. ⌜ IsOrder (now (chart .entry)) r ⌝ }
+{
+    let r = graph::graph(chart);
+    let answer = r.answer;
+    let g = r.graph;
+    match answer {
+        Answer::Ready => drawn(g),
+        Answer::Refused(number, second) => refused(number, second),
+    }
+}
