@@ -5,12 +5,13 @@ use native.Mathlib.Omega.{arith}
 use native.Mathlib.Numerals.{add-one}
 use native.Mathlib.Nat.{le-of-suc-le-suc, not-suc-le-zero}
 use mathlib.Core.Path.{_≡_, refl, ap, sym, _∙_}
-use mathlib.Core.Bool.{Bool, true, false, cond}
+use mathlib.Core.Bool.{Bool, true, false, cond, _&&_, false≢true}
 use mathlib.Core.List.{List, [], _∷_, _++_, map, append-assoc, append-nil}
 use lib.Dec.{eqb, leb}
 use lib.ListN.{length, getD, set, take, drop, replicate, length-append, length-map, drop-of-length-le}
 use lib.Seq.{getD-set-same, getD-set-other, getD-take, drop-cons, length-take-le, sets, sets-eq, take-append-seam}
-use borrow.Author.Tests.{le-leb, lt-leb, eq-eqb, ne-eqb}
+use borrow.Author.Tests.{le-leb, lt-leb, eq-eqb, ne-eqb, eqb-true}
+use Rattle.laws.specs.Bytes.{allOf, same}
 use Rattle.laws.specs.Lists.{All, one, tabulate, keep, ownedBy, joined, flat, padded, capped, stackOf}
 
 -- a count down is one more than the next
@@ -269,3 +270,71 @@ pub drop-replicate : {A : Type 0} (n m : ℕ) (a : A) → drop n (replicate m a)
 drop-replicate zero m a = let e : m ≡ m - 0 = omega arith in ap (λ k. replicate k a) e
 drop-replicate (suc n) zero a = let e : 0 ≡ 0 - suc n = omega arith in ap (λ k. replicate k a) e
 drop-replicate (suc n) (suc m) a = let e : m - n ≡ suc m - suc n = omega arith in drop-replicate n m a ∙ ap (λ k. replicate k a) e
+
+-- ---- a test of each of the list
+module _ {A : Type 0} (t : A → Bool) (z : A) where
+  -- it holds of one
+  pub test-at : (xs : List A) (i : ℕ) → i < length xs → allOf t xs ≡ true → t (getD xs i z) ≡ true
+  test-at [] i h e = absurd (not-suc-le-zero h)
+  test-at (x ∷ xs) zero h e = go (t x) e
+    where
+      go : (b : Bool) → (b && allOf t xs) ≡ true → b ≡ true
+      go true i = refl
+      go false i = i
+  test-at (x ∷ xs) (suc i) h e = test-at xs i (le-of-suc-le-suc h) (go (t x) e)
+    where
+      go : (b : Bool) → (b && allOf t xs) ≡ true → allOf t xs ≡ true
+      go true i = i
+      go false i = absurd (false≢true i)
+
+  -- one that fails
+  pub test-fails : (xs : List A) (i n : ℕ) → i < n → i < length xs → t (getD xs i z) ≡ false → allOf t (take n xs) ≡ false
+  test-fails [] i n h l e = absurd (not-suc-le-zero l)
+  test-fails (x ∷ xs) i zero h l e = absurd (not-suc-le-zero h)
+  test-fails (x ∷ xs) zero (suc n) h l e = rw e
+  test-fails (x ∷ xs) (suc i) (suc n) h l e = go (t x) (test-fails xs i n (le-of-suc-le-suc h) (le-of-suc-le-suc l) e)
+    where
+      go : (b : Bool) → allOf t (take n xs) ≡ false → (b && allOf t (take n xs)) ≡ false
+      go true i = i
+      go false i = refl
+
+  -- of the first k, and of one more
+  pub test-next : (xs : List A) (k : ℕ) → k < length xs → allOf t (take k xs) ≡ true → t (getD xs k z) ≡ true → allOf t (take (k + 1) xs) ≡ true
+  test-next xs k h e i = rw (add-one k) (go xs k h e i)
+    where
+      go : (xs : List A) (k : ℕ) → k < length xs → allOf t (take k xs) ≡ true → t (getD xs k z) ≡ true → allOf t (take (suc k) xs) ≡ true
+      go [] k h e i = refl
+      go (x ∷ xs) zero h e i = rw i
+      go (x ∷ xs) (suc k) h e i = of (t x) e (λ (q : allOf t (take k xs) ≡ true). go xs k (le-of-suc-le-suc h) q i)
+        where
+          of : (b : Bool) → (b && allOf t (take k xs)) ≡ true → (allOf t (take k xs) ≡ true → allOf t (take (suc k) xs) ≡ true) → (b && allOf t (take (suc k) xs)) ≡ true
+          of true q f = f q
+          of false q f = absurd (false≢true q)
+
+-- ---- the test of two lists of numbers
+pub same-true : (xs ys : List ℕ) → same xs ys ≡ true → xs ≡ ys
+same-true [] [] e = refl
+same-true [] (y ∷ ys) e = absurd (false≢true e)
+same-true (x ∷ xs) [] e = absurd (false≢true e)
+same-true (x ∷ xs) (y ∷ ys) e = go (eqb x y) refl e (λ (i : same xs ys ≡ true). same-true xs ys i)
+  where
+    go : (b : Bool) → eqb x y ≡ b → (b && same xs ys) ≡ true → (same xs ys ≡ true → xs ≡ ys) → x ∷ xs ≡ y ∷ ys
+    go true i e f = cc (eqb-true x y i, f e)
+    go false i e f = absurd (false≢true e)
+
+pub same-self : (xs : List ℕ) → same xs xs ≡ true
+same-self [] = refl
+same-self (x ∷ xs) = rw (eq-eqb x x refl) (same-self xs)
+
+pub same-not : (xs ys : List ℕ) → (xs ≡ ys → ⊥) → same xs ys ≡ false
+same-not xs ys n = go (same xs ys) refl
+  where
+    go : (b : Bool) → same xs ys ≡ b → same xs ys ≡ false
+    go true e = absurd (n (same-true xs ys e))
+    go false e = e
+
+-- a table that is right at each of the first n numbers
+pub right-at : (right : ℕ → Bool) (n i : ℕ) → i < n → allOf right (tabulate (λ k. k) 0 n) ≡ true → right i ≡ true
+right-at right n i h e =
+    let z : 0 + i ≡ i = omega arith in
+    ap right (sym (getD-tabulate (λ k. k) 0 n i 0 h ∙ z)) ∙ test-at right 0 (tabulate (λ k. k) 0 n) i (omega (arith, length-tabulate (λ k. k) 0 n)) e

@@ -33,3 +33,10 @@ hex s = pairs (ascii s)
 abbrev pub allOf : {A : Type 0} → (A → Bool) → List A → Bool
 allOf test [] = true
 allOf test (x ∷ xs) = test x && allOf test xs
+
+-- the two are the same numbers in the same order
+abbrev pub same : List ℕ → List ℕ → Bool
+same [] [] = true
+same [] (y ∷ ys) = false
+same (x ∷ xs) [] = false
+same (x ∷ xs) (y ∷ ys) = eqb x y && same xs ys

@@ -1,0 +1,140 @@
+-- Laws on what arrays hold: the records that a node owns, a table that is filled.
+-- Assumes nothing.
+use Prim.Native.Nat.{ℕ, zero, suc, _+_, _-_, _≤_, _<_}
+use native.Mathlib.Omega.{arith}
+use native.Mathlib.Numerals.{add-one}
+use native.Mathlib.Nat.{le-of-suc-le-suc, not-suc-le-zero}
+use mathlib.Core.Path.{_≡_, refl, ap, sym, _∙_, subst}
+use mathlib.Core.Bool.{Bool, true, false}
+use mathlib.Core.List.{List, [], _∷_, _++_, map}
+use lib.Dec.{eqb}
+use lib.ListN.{length, getD, set, take, drop, drop-of-length-le}
+use lib.Seq.{drop-cons, getD-take, length-take-le, take-all, drop-length}
+use borrow.Author.Tests.{eq-eqb, ne-eqb}
+use Rattle.laws.specs.Lists.{All, one, tabulate, keep, ownedBy, padded}
+use Rattle.laws.proofs.Lists.{padded-set, length-tabulate, getD-tabulate}
+
+-- ---- the first `count` records of an array, and those of them that p owns
+module _ {R W : Type 0} (owner : R → ℕ) (value : R → W) (z : R) (p : ℕ) (array : List R) (count : ℕ) (room : count ≤ length array) where
+  size : length (take count array) ≡ count
+  size = length-take-le count array room
+
+  -- from record k on
+  rest-at : (k : ℕ) → k < count →
+      ownedBy owner value p (drop k (take count array))
+      ≡ keep (eqb (owner (getD array k z)) p) (value (getD array k z)) (ownedBy owner value p (drop (suc k) (take count array)))
+  rest-at k h =
+      ap (ownedBy owner value p) (drop-cons (take count array) k z (omega (arith, size)))
+      ∙ ap (λ (r : R). keep (eqb (owner r) p) (value r) (ownedBy owner value p (drop (suc k) (take count array)))) (getD-take count array k z h)
+
+  pub own-up : (k : ℕ) → k < count → owner (getD array k z) ≡ p →
+      ownedBy owner value p (drop k (take count array)) ≡ value (getD array k z) ∷ ownedBy owner value p (drop (k + 1) (take count array))
+  own-up k h e = rw (add-one k) (rest-at k h ∙ rw (eq-eqb (owner (getD array k z)) p e))
+
+  pub other-up : (k : ℕ) → k < count → (owner (getD array k z) ≡ p → ⊥) →
+      ownedBy owner value p (drop k (take count array)) ≡ ownedBy owner value p (drop (k + 1) (take count array))
+  other-up k h e = rw (add-one k) (rest-at k h ∙ rw (ne-eqb (owner (getD array k z)) p e))
+
+  pub none-left : (k : ℕ) → count ≤ k → ownedBy owner value p (drop k (take count array)) ≡ []
+  none-left k h = let l : length (take count array) ≤ k = omega (arith, size) in ap (ownedBy owner value p) (drop-of-length-le (take count array) l)
+
+  -- the same where a loop counts down
+  pub own-down : (k : ℕ) → 0 < k → k ≤ count → owner (getD array (k - 1) z) ≡ p →
+      ownedBy owner value p (drop (k - 1) (take count array)) ≡ value (getD array (k - 1) z) ∷ ownedBy owner value p (drop k (take count array))
+  own-down k l h e =
+      let i : k - 1 + 1 ≡ k = omega arith in
+      own-up (k - 1) (omega arith) e ∙ ap (λ (j : ℕ). value (getD array (k - 1) z) ∷ ownedBy owner value p (drop j (take count array))) i
+
+  pub other-down : (k : ℕ) → 0 < k → k ≤ count → (owner (getD array (k - 1) z) ≡ p → ⊥) →
+      ownedBy owner value p (drop (k - 1) (take count array)) ≡ ownedBy owner value p (drop k (take count array))
+  other-down k l h e =
+      let i : k - 1 + 1 ≡ k = omega arith in
+      other-up (k - 1) (omega arith) e ∙ ap (λ (j : ℕ). ownedBy owner value p (drop j (take count array))) i
+
+-- ---- a table that is filled from its start
+module _ {A : Type 0} (f : ℕ → A) where
+  tabulate-more : (q k : ℕ) → tabulate f q (suc k) ≡ tabulate f q k ++ one (f (q + k))
+  tabulate-more q zero = ap (λ (i : ℕ). f i ∷ []) (omega arith)
+  tabulate-more q (suc k) =
+      let e : suc q + k ≡ q + suc k = omega arith in
+      ap (λ (l : List A). f q ∷ l) (tabulate-more (suc q) k ∙ ap (λ (i : ℕ). tabulate f (suc q) k ++ one (f i)) e)
+
+  pub filled-next : (m : ℕ) (z : A) (k : ℕ) → set (padded m z (tabulate f 0 k)) k (f k) ≡ padded m z (tabulate f 0 (k + 1))
+  filled-next m z k =
+      let e : 0 + k ≡ k = omega arith in
+      ap (λ (i : ℕ). set (padded m z (tabulate f 0 k)) i (f k)) (sym (length-tabulate f 0 k))
+      ∙ padded-set m z (tabulate f 0 k) (f k)
+      ∙ ap (padded m z) (ap (λ (i : ℕ). tabulate f 0 k ++ one (f i)) (sym e) ∙ sym (tabulate-more 0 k) ∙ ap (tabulate f 0) (sym (add-one k)))
+
+padded-at : {A : Type 0} (m : ℕ) (z : A) (xs : List A) (i : ℕ) → length xs ≤ m → getD (padded m z xs) i z ≡ getD xs i z
+padded-at zero z [] i h = refl
+padded-at zero z (x ∷ xs) i h = absurd (not-suc-le-zero h)
+padded-at (suc m) z [] zero h = refl
+padded-at (suc m) z [] (suc i) h = padded-at m z [] i (omega arith)
+padded-at (suc m) z (x ∷ xs) zero h = refl
+padded-at (suc m) z (x ∷ xs) (suc i) h = padded-at m z xs i (le-of-suc-le-suc h)
+
+pub filled-at : {A : Type 0} (f : ℕ → A) (m : ℕ) (z : A) (k i : ℕ) → k ≤ m → i < k → getD (padded m z (tabulate f 0 k)) i z ≡ f i
+filled-at f m z k i l h =
+    padded-at m z (tabulate f 0 k) i (omega (arith, length-tabulate f 0 k)) ∙ getD-tabulate f 0 k i z h ∙ ap f (omega arith)
+
+-- the first k of it
+padded-take : {A : Type 0} (m : ℕ) (z : A) (xs : List A) → length xs ≤ m → take (length xs) (padded m z xs) ≡ xs
+padded-take m z [] h = refl
+padded-take zero z (x ∷ xs) h = absurd (not-suc-le-zero h)
+padded-take (suc m) z (x ∷ xs) h = ap (λ (l : List _). x ∷ l) (padded-take m z xs (le-of-suc-le-suc h))
+
+pub filled-take : {A : Type 0} (f : ℕ → A) (m : ℕ) (z : A) (k : ℕ) → k ≤ m → take k (padded m z (tabulate f 0 k)) ≡ tabulate f 0 k
+filled-take f m z k l =
+    ap (λ (i : ℕ). take i (padded m z (tabulate f 0 k))) (sym (length-tabulate f 0 k)) ∙ padded-take m z (tabulate f 0 k) (omega (arith, length-tabulate f 0 k))
+
+pub tabulate-same : {A : Type 0} (f g : ℕ → A) (q k : ℕ) → ((i : ℕ) → q ≤ i → i < q + k → f i ≡ g i) → tabulate f q k ≡ tabulate g q k
+tabulate-same f g q zero h = refl
+tabulate-same f g q (suc k) h = cc (h q (omega arith) (omega arith), tabulate-same f g (suc q) k (λ i l u. h i (omega arith) (omega arith)))
+
+pub map-tabulate : {A B : Type 0} (f : A → B) (g : ℕ → A) (q k : ℕ) → map f (tabulate g q k) ≡ tabulate (λ i. f (g i)) q k
+map-tabulate f g q zero = refl
+map-tabulate f g q (suc k) = ap (λ (l : List _). f (g q) ∷ l) (map-tabulate f g (suc q) k)
+
+-- ---- the first n of an array, from its end
+module _ {A : Type 0} (z : A) (xs : List A) (n : ℕ) (room : n ≤ length xs) where
+  pub down-end : drop n (take n xs) ≡ []
+  down-end = let l : length (take n xs) ≤ n = omega (arith, length-take-le n xs room) in drop-of-length-le (take n xs) l
+
+  pub down-cons : (k : ℕ) → 0 < k → k ≤ n → drop (k - 1) (take n xs) ≡ getD xs (k - 1) z ∷ drop k (take n xs)
+  down-cons k h l =
+      let e : suc (k - 1) ≡ k = omega arith in
+      drop-cons (take n xs) (k - 1) z (omega (arith, length-take-le n xs room))
+      ∙ ap (λ (a : A). a ∷ drop (suc (k - 1)) (take n xs)) (getD-take n xs (k - 1) z (omega arith))
+      ∙ ap (λ (i : ℕ). getD xs (k - 1) z ∷ drop i (take n xs)) e
+
+  pub up-cons : (k : ℕ) → k < n → drop k (take n xs) ≡ getD xs k z ∷ drop (k + 1) (take n xs)
+  up-cons k h =
+      drop-cons (take n xs) k z (omega (arith, length-take-le n xs room))
+      ∙ ap (λ (a : A). a ∷ drop (suc k) (take n xs)) (getD-take n xs k z h)
+      ∙ ap (λ (i : ℕ). getD xs k z ∷ drop i (take n xs)) (sym (add-one k))
+
+  pub up-end : (k : ℕ) → n ≤ k → drop k (take n xs) ≡ []
+  up-end k h = let l : length (take n xs) ≤ k = omega (arith, length-take-le n xs room) in drop-of-length-le (take n xs) l
+
+-- ---- what holds of each
+pub all-at : {A : Type 0} (P : A → Type 0) (z : A) (xs : List A) (i : ℕ) → i < length xs → All P xs → P (getD xs i z)
+all-at P z [] i h a = absurd (not-suc-le-zero h)
+all-at P z (x ∷ xs) zero h a = a .0
+all-at P z (x ∷ xs) (suc i) h a = all-at P z xs i (le-of-suc-le-suc h) (a .1)
+
+pub all-take-at : {A : Type 0} (P : A → Type 0) (z : A) (xs : List A) (n i : ℕ) → n ≤ length xs → i < n → All P (take n xs) → P (getD xs i z)
+all-take-at P z xs n i l h a = subst P (getD-take n xs i z h) (all-at P z (take n xs) i (omega (arith, length-take-le n xs l)) a)
+
+pub all-by : {A : Type 0} (P : A → Type 0) (z : A) (xs : List A) → ((i : ℕ) → i < length xs → P (getD xs i z)) → All P xs
+all-by P z [] h = tt
+all-by P z (x ∷ xs) h = (h 0 (omega arith), all-by P z xs (λ i l. h (suc i) (omega arith)))
+
+pub all-tabulate : {A : Type 0} (P : A → Type 0) (f : ℕ → A) (q k : ℕ) → ((i : ℕ) → q ≤ i → i < q + k → P (f i)) → All P (tabulate f q k)
+all-tabulate P f q zero h = tt
+all-tabulate P f q (suc k) h = (h q (omega arith) (omega arith), all-tabulate P f (suc q) k (λ i l u. h i (omega arith) (omega arith)))
+
+pub all-padded : {A : Type 0} (P : A → Type 0) (m : ℕ) (z : A) (xs : List A) → P z → All P xs → All P (padded m z xs)
+all-padded P zero z xs p a = tt
+all-padded P (suc m) z [] p a = (p, all-padded P m z [] p tt)
+all-padded P (suc m) z (x ∷ xs) p a = (a .0, all-padded P m z xs p (a .1))

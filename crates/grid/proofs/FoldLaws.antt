@@ -1,0 +1,229 @@
+-- What the loops of a fold need: each definition at one box, one row or one pair more.
+-- Assumes nothing.
+use Prim.Native.Nat.{ℕ, zero, suc, _+_, _-_, _*_, _≤_, _<_, max}
+use native.Mathlib.Omega.{arith}
+use native.Mathlib.Nat.{le-of-suc-le-suc, not-suc-le-zero, zero-add}
+use native.Mathlib.Numerals.{add-one}
+use mathlib.Core.Path.{_≡_, refl, ap, sym, _∙_, subst}
+use mathlib.Core.Logic.{_⊎_, inl, inr}
+use mathlib.Core.Bool.{Bool, true, false, _&&_, _||_}
+use mathlib.Core.List.{List, [], _∷_, _++_, map, append-assoc, append-nil}
+use lib.Dec.{eqb}
+use lib.ListN.{length, getD, set, take, drop, replicate, length-set, length-map, drop-of-length-le, List·getD-append}
+use lib.Seq.{getD-set-same, getD-set-other, drop-cons, getD-take, length-take-le, take-suc-set, ext-getD}
+use borrow.Author.Tests.{eq-eqb, ne-eqb}
+use Rattle.laws.proofs.Lists.{length-tabulate, getD-tabulate, take-replicate}
+use Rattle.grid.specs.Lists.{largest}
+use Rattle.grid.specs.Columns.{at, taken, clash, collision, extra, newColumns, pairsFrom, table, foldFrom}
+use Rattle.grid.specs.Arrays.{Boxes, inColumn, tableTo, nextNew}
+use Rattle.grid.proofs.ListLaws.{same?, or-right, at-largest, largest-below, at-map}
+use Rattle.grid.proofs.ColumnLaws.{Folds}
+
+-- the largest from j on, of the first n
+pub largest-more : (xs : List ℕ) (n j : ℕ) → j < n → n ≤ length xs → largest (drop j (take n xs)) ≡ max (at xs j) (largest (drop (suc j) (take n xs)))
+largest-more xs n j h l =
+    ap largest (drop-cons (take n xs) j 0 (omega (arith, length-take-le n xs l)))
+    ∙ ap (λ (z : ℕ). max z (largest (drop (suc j) (take n xs)))) (getD-take n xs j 0 h)
+
+-- a loop that counts k down from n
+module _ (xs : List ℕ) (n : ℕ) (l : n ≤ length xs) where
+  pub largest-end : 0 ≡ largest (drop n (take n xs))
+  largest-end = let m : length (take n xs) ≤ n = omega (arith, length-take-le n xs l) in sym (ap largest (drop-of-length-le (take n xs) m))
+
+  down : (k : ℕ) → 0 < k → k ≤ n → largest (drop (k - 1) (take n xs)) ≡ max (at xs (k - 1)) (largest (drop k (take n xs)))
+  down k z h =
+      let e : suc (k - 1) ≡ k = omega arith in
+      largest-more xs n (k - 1) (omega arith) l ∙ ap (λ (i : ℕ). max (at xs (k - 1)) (largest (drop i (take n xs)))) e
+
+  pub largest-new : (k most x : ℕ) → 0 < k → k ≤ n → most ≡ largest (drop k (take n xs)) → x ≡ at xs (k - 1) → most < x → x ≡ largest (drop (k - 1) (take n xs))
+  largest-new k most x z h e f g = omega (arith, down k z h)
+
+  pub largest-old : (k most x : ℕ) → 0 < k → k ≤ n → most ≡ largest (drop k (take n xs)) → x ≡ at xs (k - 1) → x ≤ most → most ≡ largest (drop (k - 1) (take n xs))
+  largest-old k most x z h e f g = omega (arith, down k z h)
+
+or-false : (b : Bool) → (b || false) ≡ b
+or-false true = refl
+or-false false = refl
+
+or-assoc : (a b c : Bool) → (a || (b || c)) ≡ ((a || b) || c)
+or-assoc true b c = refl
+or-assoc false b c = refl
+
+-- one box more
+taken-more : (rows cols : List ℕ) (k r x : ℕ) → k < length rows → k < length cols →
+    taken (take (suc k) rows) (take (suc k) cols) r x ≡ taken (take k rows) (take k cols) r x || (eqb (at rows k) r && eqb (at cols k) x)
+taken-more [] cols k r x h l = absurd (not-suc-le-zero h)
+taken-more (y ∷ rows) [] k r x h l = absurd (not-suc-le-zero l)
+taken-more (y ∷ rows) (c ∷ cols) zero r x h l = or-false (eqb y r && eqb c x)
+taken-more (y ∷ rows) (c ∷ cols) (suc k) r x h l =
+    ap (λ (b : Bool). (eqb y r && eqb c x) || b) (taken-more rows cols k r x (le-of-suc-le-suc h) (le-of-suc-le-suc l))
+    ∙ or-assoc (eqb y r && eqb c x) (taken (take k rows) (take k cols) r x) (eqb (at rows k) r && eqb (at cols k) x)
+
+and-false : (b : Bool) → (b && false) ≡ false
+and-false true = refl
+and-false false = refl
+
+pub in-column-at : (rows cols : List ℕ) (x r : ℕ) → r < 48 → getD (inColumn rows cols x) r false ≡ taken rows cols r x
+unfolding inColumn
+in-column-at rows cols x r h = getD-tabulate (λ q. taken rows cols q x) 0 48 r false h ∙ ap (λ (q : ℕ). taken rows cols q x) (zero-add r)
+
+pub in-column-long : (rows cols : List ℕ) (x : ℕ) → length (inColumn rows cols x) ≡ 48
+unfolding inColumn
+in-column-long rows cols x = length-tabulate (λ q. taken rows cols q x) 0 48
+
+module _ (rows cols : List ℕ) (x k : ℕ) (h : k < length rows) (l : k < length cols) where
+  abbrev now : List Bool
+  now = inColumn (take k rows) (take k cols) x
+
+  abbrev next : List Bool
+  next = inColumn (take (suc k) rows) (take (suc k) cols) x
+
+  -- box k is in another column
+  pub in-column-miss : (at cols k ≡ x → ⊥) → now ≡ next
+  in-column-miss o =
+      ext-getD false now next (in-column-long (take k rows) (take k cols) x ∙ sym (in-column-long (take (suc k) rows) (take (suc k) cols) x))
+      (λ r g. each r (subst (λ (m : ℕ). r < m) (in-column-long (take k rows) (take k cols) x) g))
+    where
+      each : (r : ℕ) → r < 48 → getD now r false ≡ getD next r false
+      each r g =
+          in-column-at (take k rows) (take k cols) x r g
+          ∙ sym (in-column-at (take (suc k) rows) (take (suc k) cols) x r g ∙ taken-more rows cols k r x h l
+          ∙ rw (ne-eqb (at cols k) x o, and-false (eqb (at rows k) r)) (or-false (taken (take k rows) (take k cols) r x)))
+
+  -- box k is in column x
+  pub in-column-hit : at cols k ≡ x → at rows k < 48 → set now (at rows k) true ≡ next
+  in-column-hit e b =
+      ext-getD false (set now (at rows k) true) next
+      (length-set now (at rows k) true ∙ in-column-long (take k rows) (take k cols) x ∙ sym (in-column-long (take (suc k) rows) (take (suc k) cols) x))
+      (λ r g. each r (subst (λ (m : ℕ). r < m) (length-set now (at rows k) true ∙ in-column-long (take k rows) (take k cols) x) g) (same? r (at rows k)))
+    where
+      after : (r : ℕ) → r < 48 → (t : Bool) → eqb (at rows k) r ≡ t → getD next r false ≡ taken (take k rows) (take k cols) r x || t
+      after r g t q = in-column-at (take (suc k) rows) (take (suc k) cols) x r g ∙ taken-more rows cols k r x h l ∙ rw (eq-eqb (at cols k) x e, q) (ap (λ (b : Bool). taken (take k rows) (take k cols) r x || b) (true-and t))
+        where
+          true-and : (b : Bool) → (b && true) ≡ b
+          true-and true = refl
+          true-and false = refl
+
+      each : (r : ℕ) → r < 48 → (r ≡ at rows k) ⊎ (r ≡ at rows k → ⊥) → getD (set now (at rows k) true) r false ≡ getD next r false
+      each r g (inl q) =
+          ap (λ (i : ℕ). getD (set now (at rows k) true) i false) q ∙ getD-set-same now (at rows k) true false (omega (arith, in-column-long (take k rows) (take k cols) x))
+          ∙ sym (after r g true (eq-eqb (at rows k) r (sym q)) ∙ or-right (taken (take k rows) (take k cols) r x) true refl)
+      each r g (inr o) =
+          getD-set-other now (at rows k) r true false o ∙ in-column-at (take k rows) (take k cols) x r g
+          ∙ sym (after r g false (ne-eqb (at rows k) r (λ q. o (sym q))) ∙ or-false (taken (take k rows) (take k cols) r x))
+
+-- one row more without a collision, and a row with one
+pub next-row : (rows cols : List ℕ) (x r : ℕ) → collision rows cols x r ≡ false → clash rows cols x r ≡ false → collision rows cols x (r + 1) ≡ false
+next-row rows cols x r h k = rw (add-one r, h, k)
+
+-- what the two columns' rows say of row r
+module _ (rows cols : List ℕ) (x r : ℕ) (left right : List Bool) (h : r < 48) (el : left ≡ inColumn rows cols x) (er : right ≡ inColumn rows cols (x + 1)) where
+  clash-is : clash rows cols x r ≡ (getD left r false && getD right r false)
+  clash-is = rw (el, er, in-column-at rows cols x r h, in-column-at rows cols (x + 1) r h)
+
+  pub clash-both : getD left r false ≡ true → getD right r false ≡ true → clash rows cols x r ≡ true
+  clash-both a b = clash-is ∙ rw (a, b)
+
+  pub clash-not-left : getD left r false ≡ false → clash rows cols x r ≡ false
+  clash-not-left a = clash-is ∙ rw a
+
+  pub clash-not-right : getD right r false ≡ false → clash rows cols x r ≡ false
+  clash-not-right a = clash-is ∙ rw a (and-false (getD left r false))
+
+-- one pair more
+module _ (more : ℕ → ℕ) where
+  pub new-more : (k x new : ℕ) →
+      newColumns more (suc k) x new ≡ newColumns more k x new ++ (nextNew more k x new ∷ (nextNew more k x new + more (x + 2 * k)) ∷ [])
+  new-more zero x new = let z : x + 2 * 0 ≡ x = omega arith in rw z
+  new-more (suc k) x new =
+      let z : x + 2 + 2 * k ≡ x + 2 * suc k = omega arith in
+      ap (λ (l : List ℕ). new ∷ (new + more x) ∷ l)
+      (new-more k (x + 2) (suc (new + more x))
+      ∙ ap (λ (y : ℕ). newColumns more k (x + 2) (suc (new + more x)) ++ (nextNew more k (x + 2) (suc (new + more x)) ∷ (nextNew more k (x + 2) (suc (new + more x)) + more y) ∷ [])) z)
+
+  pub next-more : (k x new : ℕ) → nextNew more (suc k) x new ≡ suc (nextNew more k x new + more (x + 2 * k))
+  next-more zero x new = let z : x + 2 * 0 ≡ x = omega arith in rw z
+  next-more (suc k) x new =
+      let z : x + 2 + 2 * k ≡ x + 2 * suc k = omega arith in
+      next-more k (x + 2) (suc (new + more x)) ∙ ap (λ (y : ℕ). suc (nextNew more k (x + 2) (suc (new + more x)) + more y)) z
+
+-- two stores behind the first m
+pub take-two : {A : Type 0} (l : List A) (m : ℕ) (a b : A) → m + 1 < length l → take (m + 2) (set (set l m a) (m + 1) b) ≡ take m l ++ (a ∷ b ∷ [])
+take-two {A = A} l m a b h =
+    let e : m + 2 ≡ suc (m + 1) = omega arith in
+    ap (λ (i : ℕ). take i (set (set l m a) (m + 1) b)) e
+    ∙ take-suc-set (set l m a) (m + 1) b (omega (arith, length-set l m a))
+    ∙ ap (λ (z : List A). z ++ (b ∷ [])) (ap (λ (i : ℕ). take i (set l m a)) (add-one m) ∙ take-suc-set l m a (omega arith))
+    ∙ append-assoc (take m l) (a ∷ []) (b ∷ [])
+
+-- the table of one pair more, after its two stores
+pub table-more : (more : ℕ → ℕ) (start p : ℕ) (l : List ℕ) (a b : ℕ) → start + 2 * p + 1 < length l → take (start + 2 * p) l ≡ tableTo start p more →
+    a ≡ nextNew more p start start → b ≡ a + more (start + 2 * p) → take (start + 2 * (p + 1)) (set (set l (start + 2 * p) a) (start + 2 * p + 1) b) ≡ tableTo start (p + 1) more
+table-more more start p l a b h e f g =
+    let m : ℕ = start + 2 * p in
+    let z : start + 2 * (p + 1) ≡ m + 2 = omega arith in
+    let i : b ≡ nextNew more p start start + more (start + 2 * p) = g ∙ ap (λ (y : ℕ). y + more (start + 2 * p)) f in
+    ap (λ (y : ℕ). take y (set (set l m a) (m + 1) b)) z
+    ∙ take-two l m a b h
+    ∙ cc (e, f, i)
+    ∙ append-assoc (replicate start 0) (newColumns more p start start) (nextNew more p start start ∷ (nextNew more p start start + more (start + 2 * p)) ∷ [])
+    ∙ ap (λ (y : List ℕ). replicate start 0 ++ y) (sym (new-more more p start start))
+    ∙ ap (λ (y : ℕ). tableTo start y more) (sym (add-one p))
+
+pub next-next : (more : ℕ → ℕ) (start p a m : ℕ) → a ≡ nextNew more p start start → m ≡ more (start + 2 * p) → a + (m + 1) ≡ nextNew more (p + 1) start start
+next-next more start p a m e f =
+    let z : nextNew more (p + 1) start start ≡ nextNew more (suc p) start start = ap (λ (y : ℕ). nextNew more y start start) (add-one p) in
+    omega (arith, next-more more p start start, z)
+
+pub table-none : (start : ℕ) (more : ℕ → ℕ) → start ≤ 1 → take (start + 0) (replicate 146 0) ≡ tableTo start 0 more
+table-none start more h =
+    let z : start + 0 ≡ start = omega arith in
+    rw z (take-replicate start 146 0 (omega arith) ∙ sym (append-nil (replicate start 0)))
+
+-- the columns of one box more go by the table
+pub renamed-more : (f : ℕ → ℕ) (cols : List ℕ) (k : ℕ) → k < length cols →
+    set (map f (take k cols) ++ drop k cols) k (f (at cols k)) ≡ map f (take (k + 1) cols) ++ drop (k + 1) cols
+renamed-more f [] k h = absurd (not-suc-le-zero h)
+renamed-more f (c ∷ cols) zero h = refl
+renamed-more f (c ∷ cols) (suc k) h =
+    let e : suc k + 1 ≡ suc (k + 1) = omega arith in
+    rw e (ap (λ (l : List ℕ). f c ∷ l) (renamed-more f cols k (le-of-suc-le-suc h)))
+
+-- two tables that agree where the columns are
+pub renamed-same : (f g : ℕ → ℕ) (cols : List ℕ) → ((k : ℕ) → k < length cols → f (at cols k) ≡ g (at cols k)) → map f cols ≡ map g cols
+renamed-same f g [] h = refl
+renamed-same f g (c ∷ cols) h = cc (h 0 (omega arith), renamed-same f g cols (λ k l. h (suc k) (omega arith)))
+
+-- the columns by an array that begins with the whole table
+pub fold-is : (rows cols : List ℕ) (start pairs : ℕ) (l : List ℕ) → start ≤ 1 → pairs ≡ pairsFrom start cols →
+    take (start + 2 * pairs) l ≡ tableTo start pairs (extra rows cols) → map (at l) cols ≡ foldFrom start rows cols
+unfolding foldFrom
+fold-is rows cols start pairs l h e f =
+    renamed-same (at l) (at (table start rows cols)) cols
+    (λ k g.
+    sym (getD-take (start + 2 * pairs) l (at cols k) 0 (omega (arith, at-largest cols k g)))
+    ∙ ap (λ (t : List ℕ). at t (at cols k)) (f ∙ ap (λ (q : ℕ). tableTo start q (extra rows cols)) e))
+
+-- the largest of the first n
+pub first-below : (xs : List ℕ) (n b : ℕ) → n ≤ length xs → 0 < b → ((k : ℕ) → k < n → at xs k < b) → largest (take n xs) < b
+first-below xs n b l z h =
+    let e = length-take-le n xs l in
+    largest-below (take n xs) b z (λ k g. let m : k < n = omega (arith, e) in rw (getD-take n xs k 0 m) (h k m))
+
+-- after a fold the columns are columns still
+pub fold-boxes : (n start : ℕ) (rows cols : List ℕ) → n ≤ length cols → (f : Folds (take n rows) (take n cols) (table start (take n rows) (take n cols))) →
+    Boxes n rows cols → Boxes n rows (foldFrom start (take n rows) (take n cols) ++ drop n cols)
+unfolding foldFrom
+fold-boxes n start rows cols l f z =
+    record {
+      few = z .few;
+      row = z .row;
+      column = λ k h.
+          let t : List ℕ = table start (take n rows) (take n cols) in
+          let e = length-take-le n cols l in
+          let here : k < length (map (at t) (take n cols)) = omega (arith, length-map (take n cols) (at t)) in
+          let c : at (take n cols) k ≡ at cols k = getD-take n cols k 0 h in
+          let inside : at cols k < length t = omega (arith, f .cover, at-largest (take n cols) k (omega arith)) in
+          rw (List·getD-append (map (at t) (take n cols)) (drop n cols) 0 k here, at-map (at t) (take n cols) k 0 (omega arith), c)
+          (omega (arith, f .most (at cols k) inside, z .column k h));
+    }

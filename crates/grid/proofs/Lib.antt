@@ -1,0 +1,27 @@
+-- The laws of modules 6, 7 and 8.
+pub mod ListLaws
+pub mod HeightLaws
+pub mod ColumnLaws
+pub mod FoldLaws
+pub mod AverageLaws
+pub mod EndsLaws
+pub mod SignedLaws
+pub mod WalkLaws
+pub mod WalkSteps
+pub mod LowerLaws
+pub mod MoveLaws
+pub mod RoundLaws
+pub mod GridLaws
+pub mod Totals
+pub mod Arrays
+pub mod NodeLaws
+pub mod CurveLaws
+pub mod LaidLaws
+pub mod RecordLaws
+pub mod SheetLaws
+pub mod LabelLaws
+pub mod CellLaws
+pub mod HoldLaws
+pub mod TextLaws
+pub mod BoxTheorem
+pub mod Sheets

@@ -1,0 +1,77 @@
+-- `record::curves_near`: the invariant says what is found so far, or what is left to look at.
+-- Assumes nothing.
+use Prim.Native.Nat.{_-_, _≤_}
+use mathlib.Core.Path.{_≡_, refl, ap, sym, _∙_}
+use mathlib.Core.List.{map}
+use native.Mathlib.Omega.{arith}
+use borrow.Author.Tests.{not-true, not-false}
+use lib.ListN.{length, drop, take}
+use Rattle.laws.proofs.Lists.{mapped-long}
+use Rattle.grid.proofs.Arrays.{up-cons, up-end}
+use Rattle.laws.specs.Bytes.{allOf}
+use Rattle.grid.specs.Record.{curveNear, curvesOf, noCurve}
+use borrow.Author.Needs.{needs}
+use Rattle.grid.proofs.record.curves_near.Statement.{statement}
+use Rattle.grid.proofs.record.curves_near.Tie as tie
+
+abbrev Inv-loop : tie.InvT-loop
+Inv-loop s n k₀ k = allOf (curveNear (s .x) (s .y)) (drop k (curvesOf s)) ≡ allOf (curveNear (s .x) (s .y)) (curvesOf s)
+
+abbrev μ-loop : tie.MeasureT-loop
+μ-loop s n k₀ k = s .drawn - k
+
+room : (z : tie.Start Inv-loop μ-loop) → z .args .t1 .drawn ≤ length (z .args .t1 .curves)
+room z = let e : length (z .args .t1 .curves) ≡ 88 = search (needs, mapped-long) in let h = z .pre in omega arith
+
+cast-n : tie.Need-cast-n Inv-loop μ-loop
+cast-n c = search needs
+
+loop-holds : tie.Need-loop-holds Inv-loop μ-loop
+loop-holds c = refl
+
+mul-curve-near : tie.Need-mul-curve-near Inv-loop μ-loop
+mul-curve-near c = search needs
+
+element-copy-out-curve-near : tie.Need-element-copy-out-curve-near Inv-loop μ-loop
+element-copy-out-curve-near c = search needs
+
+curve-near-requires : tie.Need-curve-near-requires Inv-loop μ-loop
+curve-near-requires c κs = search needs
+
+returns : tie.Need-returns Inv-loop μ-loop
+returns c =
+    let z = c .before .before .before .before .before in
+    rw (up-cons noCurve (z .args .t1 .curves) (z .args .t1 .drawn) (room z) (c .before .before .before .before .loop .k) (c .before .before .before .loop-test .taken), sym (c .before .curve-near .ensures) ∙ not-true _ (c .if1 .taken)) at (c .before .before .before .before .loop .inv)
+
+add-k : tie.Need-add-k Inv-loop μ-loop
+add-k c = search needs
+
+loop-less : tie.Need-loop-less Inv-loop μ-loop
+loop-less c = search needs
+
+loop-again : tie.Need-loop-again Inv-loop μ-loop
+loop-again c =
+    let z = c .before .before .before .before .before in
+    rw (up-cons noCurve (z .args .t1 .curves) (z .args .t1 .drawn) (room z) (c .before .before .before .before .loop .k) (c .before .before .before .loop-test .taken), sym (c .before .curve-near .ensures) ∙ not-false _ (c .if1 .left)) at (c .before .before .before .before .loop .inv)
+
+returns-2 : tie.Need-returns-2 Inv-loop μ-loop
+returns-2 c =
+    let z = c .before .before in
+    rw (up-end noCurve (z .args .t1 .curves) (z .args .t1 .drawn) (room z) (c .before .loop .k) (c .loop-test .left)) at (c .before .loop .inv)
+
+pub curves-near-spec : {M : Type 1} → statement M
+curves-near-spec =
+    tie.close
+    (tie.spec
+    Inv-loop
+    μ-loop
+    cast-n
+    loop-holds
+    mul-curve-near
+    element-copy-out-curve-near
+    curve-near-requires
+    returns
+    add-k
+    loop-less
+    loop-again
+    returns-2)

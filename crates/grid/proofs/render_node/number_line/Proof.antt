@@ -1,0 +1,17 @@
+-- `render_node::number_line`: each way out rewrites with what led there.
+-- Assumes nothing.
+use borrow.Author.Tests.{eq-eqb, ne-eqb, lt-ltb, le-ltb}
+use Rattle.grid.proofs.render_node.number_line.Statement.{statement}
+use Rattle.grid.proofs.render_node.number_line.Tie as tie
+
+returns : tie.Need-returns
+returns c = rw (eq-eqb _ _ (c .if1 .taken))
+
+returns-2 : tie.Need-returns-2
+returns-2 c = rw (ne-eqb _ _ (c .before .if1 .left), lt-ltb _ _ (c .if2 .taken))
+
+returns-3 : tie.Need-returns-3
+returns-3 c = rw (ne-eqb _ _ (c .before .if1 .left), le-ltb _ _ (c .if2 .left))
+
+pub number-line-spec : {M : Type 1} → statement M
+number-line-spec = tie.close (tie.spec returns returns-2 returns-3)

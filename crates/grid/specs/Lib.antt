@@ -1,0 +1,19 @@
+-- Document 01, modules 6, 7 and 8, on lists; what the code's arrays and records stand for; what is claimed.
+pub mod Lists
+pub mod Heights
+pub mod Columns
+pub mod Placed
+pub mod RenderNode
+pub mod RenderGrid
+pub mod Record
+pub mod Curves
+pub mod Sheeted
+pub mod Cells
+pub mod Labels
+pub mod SheetTheorem
+pub mod BoxTheorem
+pub mod Arrays
+pub mod Walk
+pub mod Rendered
+pub mod Laid
+pub mod Cases

@@ -1,0 +1,146 @@
+// Modules 6, 7 and 8 of document 01: heights, columns, boxes, and the sheet of a chart.
+ghost use mathlib.Core.Path.{_≡_};
+ghost use lib.ListN.{take};
+ghost use Rattle.graph.specs.Tables.{graphOf};
+ghost use Rattle.grid.specs.Placed.{FirstColumns};
+ghost use Rattle.grid.specs.Rendered.{Seated};
+ghost use Rattle.grid.specs.RenderGrid.{sheet};
+ghost use Rattle.grid.specs.Curves.{recordOf};
+ghost use Rattle.grid.specs.Sheeted.{within as withinOf, refusal, outcomeOf, fittedOf};
+ghost use Rattle.grid.specs.BoxTheorem.{IsSheet};
+use chart::Answer;
+use graph::Tables;
+pub use placing::cells;
+pub use record::box_of;
+pub use record::sound;
+
+mod columns;
+mod heights;
+mod label;
+mod placing;
+mod record;
+mod render_grid;
+mod render_node;
+
+// A box: its top left corner, its width and its height, and the column and row of its cell.
+pub struct BoxRecord {
+    pub x: u32,
+    pub y: u32,
+    pub width: u32,
+    pub height: u32,
+    pub column: u8,
+    pub row: u8,
+}
+
+// A curve: the output point x0 y0 where it begins, and the input point x1 y1 where it ends.
+pub struct Curve {
+    pub x0: u32,
+    pub y0: u32,
+    pub x1: u32,
+    pub y1: u32,
+}
+
+// A sheet: its size, its origin, how many columns, rows and cuts it has; the first count boxes, and the first drawn curves. It holds no texts.
+pub struct SheetRecord {
+    pub width: u32,
+    pub height: u32,
+    pub x: u32,
+    pub y: u32,
+    pub columns: u8,
+    pub rows: u8,
+    pub cuts: u8,
+    pub count: u8,
+    pub drawn: u8,
+    pub boxes: [BoxRecord; 48],
+    pub curves: [Curve; 88],
+}
+
+// A refused chart's sheet has every field 0.
+pub struct Outcome {
+    pub answer: Answer,
+    pub sheet: SheetRecord,
+}
+
+// A box of a sheet; refused, its record is the empty one.
+pub struct BoxAnswer {
+    pub answer: Answer,
+    pub place: BoxRecord,
+}
+
+// The place of a label, its size and its width; its text is the part of the chart at `at`, or where `fixed`, the fixed text of the number.
+pub struct LabelPlace {
+    pub found: bool,
+    pub x: u32,
+    pub y: u32,
+    pub size: u32,
+    pub width: u32,
+    pub fixed: bool,
+    pub at: u16,
+    pub len: u8,
+    pub number: u8,
+}
+
+// A refused chart.
+fn refused(number: u8, second: u32) -> Outcome
+    ensures { λ r. ⌜ r ≡ outcomeOf 0 0 (refusal number second) ⌝ }
+{
+    let none = record::no_sheet();
+    Outcome {
+        answer: Answer::Refused(number, second),
+        sheet: none,
+    }
+}
+
+// The sheet of a cut graph with these first columns.
+fn lay_out(g: Tables, first: [u8; 48], x: u32, y: u32) -> SheetRecord
+    requires { ⌜ Seated g ⌝ }
+    requires { ⌜ FirstColumns (g .n) (take (g .n) first) ⌝ }
+    ensures { λ r. ⌜ r ≡ recordOf (sheet (graphOf g) (g .cuts) (take (g .n) first)) x y ⌝ }
+{
+    let n = g.n;
+    let sources = g.sources;
+    let sinks = g.sinks;
+    let from = graph::ends_of(sources);
+    let to = graph::ends_of(sinks);
+    let rows = heights::heights(from, to, n);
+    let cols = columns::columns(from, to, rows, first, n);
+    render_grid::laid(g, rows, cols, x, y)
+}
+
+// Whether origin plus total is at most 8,388,608.
+fn within(origin: u32, total: u32) -> bool
+    ensures { λ r. ⌜ r ≡ withinOf origin total ⌝ }
+{
+    (origin as u64) + (total as u64) <= 8388608
+}
+
+// Refusal 14.
+fn fit(s: SheetRecord) -> Outcome
+    ensures { λ r. ⌜ r ≡ fittedOf s ⌝ }
+{
+    if within(s.x, s.width) {
+        if within(s.y, s.height) {
+            return Outcome {
+                answer: Answer::Ready,
+                sheet: s,
+            };
+        }
+        return refused(14, 0);
+    }
+    refused(14, 0)
+}
+
+// The sheet of a chart at the origin x y, or the first refusal of 1 to 14.
+pub fn sheet(chart: &[u8], x: u32, y: u32) -> Outcome
+    ensures { λ r. ⌜ IsSheet (now (chart .entry)) x y r ⌝ }
+{
+    let ordered = order::order(chart);
+    let first = ordered.columns;
+    let r = graph::graph(chart);
+    let answer = r.answer;
+    let g = r.graph;
+    match answer {
+        Answer::Ready => fit(lay_out(g, first, x, y)),
+        Answer::Refused(number, second) => refused(number, second),
+    }
+}

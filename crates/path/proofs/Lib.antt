@@ -1,0 +1,23 @@
+-- The laws that the proofs of this crate, and of those above it, share.
+pub mod Exact
+pub mod Numbers
+pub mod Puts
+pub mod Words
+pub mod Tails
+pub mod Backs
+pub mod Steps
+pub mod Readings
+pub mod Writings
+pub mod Derives
+pub mod Passes
+pub mod Keeps
+pub mod Wholes
+pub mod Texts
+pub mod Sheets
+pub mod Drawings
+pub mod Scans
+pub mod Accepts
+pub mod Fronts
+pub mod Larges
+pub mod Laws
+pub mod Labels

@@ -1,0 +1,27 @@
+-- `text_count` meets its contract: by the verdict (`Texts`). Assumes nothing.
+use Rattle.path.proofs.Texts.{count-fine, count-refused}
+use borrow.Author.Needs.{needs}
+use Rattle.path.proofs.text_count.Statement.{statement}
+use Rattle.path.proofs.text_count.Tie as tie
+
+pass-over-requires : tie.Need-pass-over-requires
+pass-over-requires c κs = search needs
+
+judge-requires : tie.Need-judge-requires
+judge-requires c κs = search needs
+
+enum-told : tie.Need-enum-told
+enum-told c = search needs
+
+enum-known-v : tie.Need-enum-known-v
+enum-known-v c = search needs
+
+returns : tie.Need-returns
+returns c = count-fine 0 (c .before .before .before .before .before .before .args .text .now) (c .before .before .before .before .pass-over .result) (c .before .before .judge .result) (c .before .before .before .before .pass-over .ensures) (c .before .before .judge .ensures) (c .enum-told .given .1)
+
+returns-2 : tie.Need-returns-2
+returns-2 c = count-refused 0 (c .before .before .before .before .before .before .before .args .text .now) (c .before .before .before .before .before .pass-over .result) (c .before .before .before .judge .result) (c .before .before .before .before .before .pass-over .ensures) (c .before .before .before .judge .ensures) (c .before .v .given .0 .0) (c .before .v .given .0 .1 .0) (c .before .v .given .1)
+
+pub text-count-spec : {M : Type 1} → statement M
+text-count-spec =
+    tie.close (tie.spec pass-over-requires judge-requires enum-told enum-known-v returns returns-2)

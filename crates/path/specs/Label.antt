@@ -1,0 +1,51 @@
+-- A label's text: 'a part of the chart or of the stand-in table, not a copy; that table, lent beside the chart, is the fixed texts `#0` to `#31`, end to end'.
+-- Assumes nothing.
+use Prim.Native.Nat.{ℕ, zero, suc, _+_, _-_}
+use mathlib.Core.Path.{_≡_, refl}
+use mathlib.Core.Bool.{Bool, cond, _&&_}
+use mathlib.Core.List.{List, [], _∷_, _++_}
+use lib.Dec.{leb}
+use lib.ListN.{length, take, drop}
+use denote.Ref.{RefT}
+use Rattle.laws.specs.Bytes.{ascii}
+use Rattle.path.specs.declared.label.Span.{Span}
+use Rattle.path.specs.Number.{digits}
+
+-- r is the part of s from a to e, and not a copy: it points into s, a elements from its start
+abbrev pub IsPart : RefT (List ℕ) → ℕ → ℕ → RefT (List ℕ) → Type 0
+IsPart s a e r = (r .ptr ≡ (s .ptr .0, a + s .ptr .1)) × (r .now ≡ take (e - a) (drop a (s .now)))
+
+-- from a to e, in the chart or in the table of fixed texts
+pub data Place : Type 0 where
+  chart table : ℕ → ℕ → Place
+
+-- the place that is asked for where it lies within, and else 'the empty one at the chart's start'; m and n are the lengths of chart and table
+abbrev pub partAt : Bool → ℕ → ℕ → ℕ → ℕ → Place
+partAt fixed a e m n = cond (leb a e && leb e (cond fixed n m)) (cond fixed (table a e) (chart a e)) (chart 0 0)
+
+-- r is the text at a place of the two slices
+abbrev pub IsAt : Place → RefT (List ℕ) → RefT (List ℕ) → RefT (List ℕ) → Type 0
+IsAt (chart a e) x y r = IsPart x a e r
+IsAt (table a e) x y r = IsPart y a e r
+
+-- ---- the stand-in table
+-- 'A pointer's Debug text is `#` and the decimal number'
+abbrev pub standIn : ℕ → List ℕ
+standIn q = 35 ∷ digits q
+
+-- those of the numbers below n, end to end
+unfoldable pub standInsTo : ℕ → List ℕ
+standInsTo zero = []
+standInsTo (suc n) = standInsTo n ++ standIn n
+
+-- `#0` to `#31`
+unfoldable pub standIns : List ℕ
+standIns = standInsTo 32
+
+standIns-are : standIns ≡ ascii "#0#1#2#3#4#5#6#7#8#9#10#11#12#13#14#15#16#17#18#19#20#21#22#23#24#25#26#27#28#29#30#31"
+unfolding standIns standInsTo digits
+standIns-are = refl
+
+-- where `#q` stands: after those before it
+abbrev pub standInSpan : ℕ → Span
+standInSpan q = record { at = length (standInsTo q); end = length (standInsTo q) + length (standIn q) }

@@ -1,0 +1,76 @@
+// Labels: a text that is a part of the chart or of the stand-in table, and that table. (The label calls are put together above the layout.)
+ghost use mathlib.Core.Path.{_≡_};
+ghost use Prim.Native.Nat.{_<_};
+ghost use lib.ListN.{length, getD};
+ghost use Rattle.laws.specs.Bytes.{same};
+ghost use Rattle.path.specs.Label.{partAt, IsAt, standIns, standInSpan};
+
+// From `at` up to `end`.
+pub struct Span {
+    pub at: usize,
+    pub end: usize,
+}
+
+// The part from `at` to `end` of the table or of the chart; where it does not lie within, the empty part at the chart's start.
+pub fn part_of<'a>(chart: &'a [u8], table: &'a [u8], fixed: bool, at: usize, end: usize) -> &'a [u8]
+    ensures { λ r. ⌜ IsAt (partAt fixed at end (length (now (chart .entry))) (length (now (table .entry)))) (chart .entry) (table .entry) r ⌝ }
+{
+    if end < at {
+        return &chart[0..0];
+    }
+    if fixed {
+        if end <= table.len() {
+            return &table[at..end];
+        }
+        return &chart[0..0];
+    }
+    if end <= chart.len() {
+        return &chart[at..end];
+    }
+    &chart[0..0]
+}
+
+// Byte i of the stand-in table.
+fn stand_in_byte(i: usize) -> u8
+    requires { ⌜ i < 86 ⌝ }
+    ensures { λ r. ⌜ r ≡ getD standIns i 0 ⌝ }
+{
+    let t =
+        b"#0#1#2#3#4#5#6#7#8#9#10#11#12#13#14#15#16#17#18#19#20#21#22#23#24#25#26#27#28#29#30#31";
+    t[i]
+}
+
+// Whether a lent table is the stand-in table.
+pub fn is_stand_ins(table: &[u8]) -> bool
+    ensures { λ r. ⌜ r ≡ same (now (table .entry)) standIns ⌝ }
+{
+    if table.len() != 86 {
+        return false;
+    }
+    let mut i = 0usize;
+    while i < 86 {
+        if table[i] != stand_in_byte(i) {
+            return false;
+        }
+        i += 1;
+    }
+    true
+}
+
+// Where `#q` stands in the stand-in table.
+pub fn stand_in(q: u8) -> Span
+    requires { ⌜ q < 32 ⌝ }
+    ensures { λ r. ⌜ r ≡ standInSpan q ⌝ }
+{
+    let n = q as usize;
+    if n < 10 {
+        return Span {
+            at: 2 * n,
+            end: 2 * n + 2,
+        };
+    }
+    Span {
+        at: 3 * n - 10,
+        end: 3 * n - 7,
+    }
+}

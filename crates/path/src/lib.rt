@@ -1,0 +1,148 @@
+// Document 01, module 9: the segments of a sheet, its whole text, and a path text read and written again.
+// A sheet and a path text each give segments or a refusal (`sheetAnswer`, `read`); the promises say what of these is handed out or written.
+ghost use mathlib.Core.Path.{_≡_};
+ghost use Rattle.path.specs.Reader.{read};
+ghost use Rattle.path.specs.Answers.{sheetAnswer, countOf, givenOf, writtenOf, leftOf};
+use drawn::segment_of;
+use grid::SheetRecord;
+use grid::sound;
+use pass::drawn_six;
+use pass::pass_over;
+use reader::Verdict;
+use reader::judge;
+use sheet::put_text;
+use sheet::size_of;
+use sheet::stroke_at;
+use sheet::text_len;
+use stroke::pens_of;
+use text::copy;
+
+mod drawn;
+mod halves;
+mod label;
+mod number;
+mod pass;
+mod reader;
+mod sheet;
+mod stroke;
+mod text;
+mod writer;
+
+// A pen position.
+pub struct Pen {
+    pub x: f32,
+    pub y: f32,
+}
+
+// A segment: a move, a line, a cubic (two controls and the end) or a close.
+pub enum Segment {
+    Move(Pen),
+    Line(Pen),
+    Cubic(Pen, Pen, Pen),
+    Close,
+}
+
+// A segment, or document 01's two numbers of the refusal.
+pub enum Given {
+    Drawn(Segment),
+    Refused(u8, usize),
+}
+
+// How many segments, or document 01's two numbers of the refusal.
+pub enum Counted {
+    Segments(usize),
+    Refused(u8, usize),
+}
+
+// How many bytes were written, or document 01's two numbers of the refusal.
+pub enum Written {
+    Done(usize),
+    Refused(u8, usize),
+}
+
+// Segment k of a sheet: 14, then 15.
+pub fn sheet_segment(s: SheetRecord, k: usize) -> Given
+    ensures { λ r. ⌜ r ≡ givenOf k (sheetAnswer s) ⌝ }
+{
+    if !sound(s) {
+        return Given::Refused(14, 0);
+    }
+    if k < size_of(s) {
+        return Given::Drawn(pens_of(stroke_at(s, k)));
+    }
+    Given::Refused(15, 0)
+}
+
+// The whole text of a sheet: 14, then 16 with the length needed; refused, nothing is written.
+pub fn write_sheet(s: SheetRecord, buf: &mut [u8]) -> Written
+    ensures { λ r. ⌜ r ≡ writtenOf (now (buf .entry)) (sheetAnswer s) ⌝ }
+    ensures { λ _. ⌜ now (buf .exit) ≡ leftOf (now (buf .entry)) (sheetAnswer s) ⌝ }
+{
+    if !sound(s) {
+        return Written::Refused(14, 0);
+    }
+    let n = text_len(s);
+    if buf.len() < n {
+        return Written::Refused(16, n);
+    }
+    put_text(buf, s);
+    Written::Done(n)
+}
+
+// The count of segments of a path text: 17 to 19.
+pub fn text_count(text: &[u8]) -> Counted
+    ensures { λ r. ⌜ r ≡ countOf (read (now (text .entry))) ⌝ }
+{
+    let m = pass_over(text, 0);
+    let s = m.stand;
+    let v = judge(text.len(), s);
+    match v {
+        Verdict::Fine => Counted::Segments(m.count),
+        Verdict::Refused(n, p) => Counted::Refused(n, p),
+    }
+}
+
+// Segment k of a path text: 17 to 19, then 15.
+pub fn text_segment(text: &[u8], k: usize) -> Given
+    ensures { λ r. ⌜ r ≡ givenOf k (read (now (text .entry))) ⌝ }
+{
+    let m = pass_over(text, k);
+    let s = m.stand;
+    let v = judge(text.len(), s);
+    match v {
+        Verdict::Fine => {
+            if k < m.count {
+                let kept = m.kept;
+                let numbers = kept.numbers;
+                return Given::Drawn(segment_of(drawn_six(kept.letter, numbers)));
+            }
+            return Given::Refused(15, 0);
+        }
+        Verdict::Refused(n, p) => {
+            return Given::Refused(n, p);
+        }
+    }
+}
+
+// A path text read and written again: 17 to 19, then 16. A text that is read is the text of its segments, so its bytes are copied.
+pub fn rewrite(text: &[u8], buf: &mut [u8]) -> Written
+    ensures { λ r. ⌜ r ≡ writtenOf (now (buf .entry)) (read (now (text .entry))) ⌝ }
+    ensures { λ _. ⌜ now (buf .exit) ≡ leftOf (now (buf .entry)) (read (now (text .entry))) ⌝ }
+{
+    let m = pass_over(text, 0);
+    let s = m.stand;
+    let n = text.len();
+    let v = judge(n, s);
+    match v {
+        Verdict::Fine => {
+            if buf.len() < n {
+                return Written::Refused(16, n);
+            }
+            copy(text, buf);
+            return Written::Done(n);
+        }
+        Verdict::Refused(a, p) => {
+            return Written::Refused(a, p);
+        }
+    }
+}

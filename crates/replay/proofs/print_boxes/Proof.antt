@@ -1,0 +1,51 @@
+-- `print_boxes`: a loop of 48 turns.
+-- Assumes nothing.
+use Prim.Native.Nat.{_-_, _≤_}
+use borrow.Author.Needs.{needs}
+use Rattle.replay.proofs.print_boxes.Statement.{statement}
+use Rattle.replay.proofs.print_boxes.Tie as tie
+
+abbrev Inv-loop : tie.InvT-loop
+Inv-loop count boxes k₀ k = k ≤ 48
+
+abbrev μ-loop : tie.MeasureT-loop
+μ-loop count boxes k₀ k = 48 - k
+
+loop-holds : tie.Need-loop-holds Inv-loop μ-loop
+loop-holds c = search needs
+
+mul-print-box : tie.Need-mul-print-box Inv-loop μ-loop
+mul-print-box c = search needs
+
+array-copy-out-print-box : tie.Need-array-copy-out-print-box Inv-loop μ-loop
+array-copy-out-print-box c = search needs
+
+print-box-requires : tie.Need-print-box-requires Inv-loop μ-loop
+print-box-requires c κs = search needs
+
+add-k : tie.Need-add-k Inv-loop μ-loop
+add-k c = search needs
+
+loop-less : tie.Need-loop-less Inv-loop μ-loop
+loop-less c = search needs
+
+loop-again : tie.Need-loop-again Inv-loop μ-loop
+loop-again c = search needs
+
+returns : tie.Need-returns Inv-loop μ-loop
+returns c = search needs
+
+pub print-boxes-spec : {M : Type 1} → statement M
+print-boxes-spec =
+    tie.close
+    (tie.spec
+    Inv-loop
+    μ-loop
+    loop-holds
+    mul-print-box
+    array-copy-out-print-box
+    print-box-requires
+    add-k
+    loop-less
+    loop-again
+    returns)

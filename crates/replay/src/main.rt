@@ -1,0 +1,100 @@
+// Charts in hexadecimal, one on each line of standard input: the listing of each, as the program `listing` prints it, and an empty line.
+use chart::Answer;
+use grid::BoxRecord;
+use grid::SheetRecord;
+use libc::STDOUT_FILENO;
+use path::Written;
+
+fn number(n: u64) {
+    io::write_all(STDOUT_FILENO, b" ");
+    io::print_decimal(STDOUT_FILENO, n);
+}
+
+fn print_box(k: u64, b: BoxRecord) {
+    io::write_all(STDOUT_FILENO, b"box");
+    number(k);
+    number(b.column as u64);
+    number(b.row as u64);
+    number(b.x as u64);
+    number(b.y as u64);
+    number(b.width as u64);
+    number(b.height as u64);
+    io::write_all(STDOUT_FILENO, b"\n");
+}
+
+fn print_boxes(boxes: [BoxRecord; 48], count: u8) {
+    for k in 0..48usize {
+        if k < count as usize {
+            print_box(k as u64, boxes[k]);
+        }
+    }
+}
+
+// The path's text, or `path` alone if it is empty.
+fn print_path(s: SheetRecord) {
+    io::write_all(STDOUT_FILENO, b"path");
+    let mut text = io::large_buffer();
+    let written = path::write_sheet(s, &mut text);
+    if let Written::Done(n) = written {
+        if 0 < n {
+            io::write_all(STDOUT_FILENO, b" ");
+        }
+        if n <= 65536 {
+            io::write_all(STDOUT_FILENO, &text[..n]);
+        }
+    }
+    io::write_all(STDOUT_FILENO, b"\n");
+}
+
+fn print_sheet(s: SheetRecord) {
+    io::write_all(STDOUT_FILENO, b"sheet");
+    number(s.columns as u64);
+    number(s.rows as u64);
+    number(s.width as u64);
+    number(s.height as u64);
+    number(s.count as u64);
+    number(s.cuts as u64);
+    io::write_all(STDOUT_FILENO, b"\n");
+    let boxes = s.boxes;
+    print_boxes(boxes, s.count);
+    print_path(s);
+}
+
+fn print_refusal(first: u8, second: u32) {
+    io::write_all(STDOUT_FILENO, b"refused");
+    number(first as u64);
+    number(second as u64);
+    io::write_all(STDOUT_FILENO, b"\n");
+}
+
+fn print_listing(chart: &[u8]) {
+    let r = grid::sheet(chart, 0, 0);
+    let a = r.answer;
+    let s = r.sheet;
+    match a {
+        Answer::Ready => print_sheet(s),
+        Answer::Refused(first, second) => print_refusal(first, second),
+    }
+}
+
+fn print_hex(text: &[u8]) {
+    let mut chart = [0u8; 8192];
+    let n = lines::decode(text, &mut chart);
+    print_listing(&chart[..n]);
+    io::write_all(STDOUT_FILENO, b"\n");
+}
+
+fn print_all(text: &[u8]) {
+    let mut at = 0;
+    while at < text.len() {
+        let line = lines::line(text, at);
+        print_hex(line);
+        at += line.len() + 1;
+    }
+}
+
+fn main() {
+    let mut space = lines::space();
+    let n = io::read_full(0, &mut space);
+    print_all(&space[..n]);
+}
