@@ -11,13 +11,13 @@ use lib.Dec.{eqb, ltb}
 use lib.ListN.{length, set, take, drop, length-set, take-append-drop}
 use lib.Seq.{getD-take, length-take-le, set-append-left, getD-set-same, getD-set-other, take-at, drop-at, length-front}
 use borrow.Author.Tests.{eq-eqb, ne-eqb, lt-ltb, le-ltb}
+use Rattle.laws.proofs.Tests.{and-false, same?}
 use Rattle.graph.specs.Shape.{Shape}
 use Rattle.laws.specs.Each.{each}
 use Rattle.laws.proofs.Each.{next}
 use Rattle.grid.specs.Lists.{orElse}
 use Rattle.grid.specs.Columns.{at, nearer, rightOf, rightEnd, leftEnd, clamp, averageTo, averageOne, mean, columnsOf, incidents}
 use Rattle.grid.specs.Arrays.{Boxes}
-use Rattle.grid.proofs.ListLaws.{same?}
 use Rattle.laws.proofs.Lists.{drop-down, drop-end}
 use Rattle.grid.proofs.ColumnLaws.{Beyond, Under, left-most, right-beyond, right-under, end-least, end-under}
 
@@ -66,10 +66,6 @@ set-first xs n p v l h =
 
 -- a box's row and column y c, against row r and column x
 module _ (y r a b v w : ℕ) where
-  and-false : (t : Bool) → (t && false) ≡ false
-  and-false true = refl
-  and-false false = refl
-
   pub not-row : (y ≡ r → ⊥) → cond (eqb y r && ltb a b) v w ≡ w
   not-row h = rw (ne-eqb y r h)
 

@@ -10,6 +10,7 @@ use lib.Dec.{eqb, leb, ltb}
 use lib.ListN.{length, getD, set, replicate, length-set, length-replicate, getD-replicate}
 use lib.Seq.{getD-set-same, getD-set-other}
 use borrow.Author.Tests.{le-leb, lt-ltb, eqb-true, eqb-false}
+use Rattle.laws.proofs.Tests.{same?}
 use Rattle.laws.specs.Each.{each}
 use Rattle.grid.specs.declared.BoxRecord.{BoxRecord}
 use Rattle.grid.specs.declared.SheetRecord.{SheetRecord}
@@ -23,13 +24,6 @@ record Full (g : List (List ℕ)) : Type 0 where
 
 none-full : Full noCells
 none-full = record { tall = refl; wide = λ r h. ap length (getD-replicate 48 r (replicate 144 255) [] h) ∙ length-replicate {A = ℕ} 144 255 }
-
-same? : (a b : ℕ) → (a ≡ b) ⊎ (a ≡ b → ⊥)
-same? a b = go (eqb a b) refl
-  where
-    go : (t : Bool) → eqb a b ≡ t → (a ≡ b) ⊎ (a ≡ b → ⊥)
-    go true e = inl (eqb-true a b e)
-    go false e = inr (eqb-false a b e)
 
 -- a store in the cell at row y and column x
 module _ (g : List (List ℕ)) (f : Full g) (y x k : ℕ) (in-row : y < 48) (in-column : x < 144) where

@@ -13,12 +13,13 @@ use lib.Dec.{eqb, ltb}
 use lib.ListN.{length, set, length-set, length-map, List·getD-eq-default}
 use lib.Seq.{getD-set-same, getD-set-other}
 use borrow.Author.Tests.{eq-eqb, lt-ltb, ltb-true}
+use Rattle.laws.proofs.Tests.{less?, same?}
 use Rattle.graph.specs.Shape.{Shape}
 use Rattle.laws.specs.Each.{each}
 use Rattle.grid.specs.Lists.{largest, smallest}
 use Rattle.grid.specs.Columns.{at, taken, incidents, columnsOf, target, goTo, firstMove, firstMoves, clash, collision, extra, newColumns, renamed, pairsFrom, table, foldFrom, mean, nearer, rightOf, rightEnd, leftEnd, clamp, averageOne, average, round, columns}
 use Rattle.grid.specs.Placed.{Placed, FirstColumns}
-use Rattle.grid.proofs.ListLaws.{same?, less?, or-right, at-largest, smallest-le, at-map}
+use Rattle.grid.proofs.ListLaws.{or-right, at-largest, smallest-le, at-map}
 use Rattle.laws.proofs.Each.{keeps}
 
 -- a box's own place is taken

@@ -12,11 +12,12 @@ use lib.Dec.{eqb}
 use lib.ListN.{length, getD, set, take, drop, replicate, length-set, length-map, drop-of-length-le, List·getD-append}
 use lib.Seq.{getD-set-same, getD-set-other, drop-cons, getD-take, length-take-le, take-suc-set, ext-getD}
 use borrow.Author.Tests.{eq-eqb, ne-eqb}
+use Rattle.laws.proofs.Tests.{and-false, or-assoc, same?}
 use Rattle.laws.proofs.Lists.{length-tabulate, getD-tabulate, take-replicate}
 use Rattle.grid.specs.Lists.{largest}
 use Rattle.grid.specs.Columns.{at, taken, clash, collision, extra, newColumns, pairsFrom, table, foldFrom}
 use Rattle.grid.specs.Arrays.{Boxes, inColumn, tableTo, nextNew}
-use Rattle.grid.proofs.ListLaws.{same?, or-right, at-largest, largest-below, at-map}
+use Rattle.grid.proofs.ListLaws.{or-right, at-largest, largest-below, at-map}
 use Rattle.grid.proofs.ColumnLaws.{Folds}
 
 -- the largest from j on, of the first n
@@ -45,10 +46,6 @@ or-false : (b : Bool) → (b || false) ≡ b
 or-false true = refl
 or-false false = refl
 
-or-assoc : (a b c : Bool) → (a || (b || c)) ≡ ((a || b) || c)
-or-assoc true b c = refl
-or-assoc false b c = refl
-
 -- one box more
 taken-more : (rows cols : List ℕ) (k r x : ℕ) → k < length rows → k < length cols →
     taken (take (suc k) rows) (take (suc k) cols) r x ≡ taken (take k rows) (take k cols) r x || (eqb (at rows k) r && eqb (at cols k) x)
@@ -58,10 +55,6 @@ taken-more (y ∷ rows) (c ∷ cols) zero r x h l = or-false (eqb y r && eqb c x
 taken-more (y ∷ rows) (c ∷ cols) (suc k) r x h l =
     ap (λ (b : Bool). (eqb y r && eqb c x) || b) (taken-more rows cols k r x (le-of-suc-le-suc h) (le-of-suc-le-suc l))
     ∙ or-assoc (eqb y r && eqb c x) (taken (take k rows) (take k cols) r x) (eqb (at rows k) r && eqb (at cols k) x)
-
-and-false : (b : Bool) → (b && false) ≡ false
-and-false true = refl
-and-false false = refl
 
 pub in-column-at : (rows cols : List ℕ) (x r : ℕ) → r < 48 → getD (inColumn rows cols x) r false ≡ taken rows cols r x
 unfolding inColumn

@@ -11,6 +11,7 @@ use mathlib.Core.List.{List, [], _∷_}
 use lib.Dec.{eqb}
 use lib.ListN.{length, getD, length-map}
 use borrow.Author.Tests.{eq-eqb, eqb-true}
+use Rattle.laws.proofs.Tests.{less?}
 use Rattle.graph.specs.Graph.{Graph, nodeAt, bare}
 use Rattle.grid.specs.Lists.{largest}
 use Rattle.grid.specs.Columns.{at}
@@ -18,7 +19,7 @@ use Rattle.grid.specs.Placed.{Placed}
 use Rattle.grid.specs.RenderNode.{drawn, boxWidth, boxHeight}
 use Rattle.grid.specs.RenderGrid.{extent, begins, reach, holds, Box, Sheet, boxAt, boxOf, cellsOf, widths, tallnesses, sheetOf}
 use Rattle.grid.specs.SheetTheorem.{noBox, box, cell, Names, Across, Down, SheetTheorem}
-use Rattle.grid.proofs.ListLaws.{less?, at-largest, at-map}
+use Rattle.grid.proofs.ListLaws.{at-largest, at-map}
 use Rattle.laws.proofs.Lists.{length-tabulate, getD-tabulate}
 
 -- Lines of boxes, which are columns or rows: a line is as large as its largest box, and begins past the line before it and the gap.

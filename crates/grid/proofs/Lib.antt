@@ -21,7 +21,6 @@ pub mod RecordLaws
 pub mod SheetLaws
 pub mod LabelLaws
 pub mod CellLaws
-pub mod HoldLaws
 pub mod TextLaws
 pub mod BoxTheorem
 pub mod Sheets

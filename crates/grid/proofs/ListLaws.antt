@@ -10,24 +10,11 @@ use mathlib.Core.List.{List, [], _∷_, map}
 use lib.Dec.{eqb, ltb}
 use lib.ListN.{length, getD}
 use borrow.Author.Tests.{eqb-true, eqb-false, ltb-true, ltb-false}
+use Rattle.laws.proofs.Tests.{less?, same?}
 use Rattle.grid.specs.Lists.{largest, smallest}
 use Rattle.grid.specs.Columns.{at}
 
 -- two numbers are the same or not, and one is smaller or not
-pub same? : (a b : ℕ) → (a ≡ b) ⊎ (a ≡ b → ⊥)
-same? a b = go (eqb a b) refl
-  where
-    go : (t : Bool) → eqb a b ≡ t → (a ≡ b) ⊎ (a ≡ b → ⊥)
-    go true e = inl (eqb-true a b e)
-    go false e = inr (eqb-false a b e)
-
-pub less? : (a b : ℕ) → (a < b) ⊎ (b ≤ a)
-less? a b = go (ltb a b) refl
-  where
-    go : (t : Bool) → ltb a b ≡ t → (a < b) ⊎ (b ≤ a)
-    go true e = inl (ltb-true a b e)
-    go false e = inr (ltb-false a b e)
-
 pub or-right : (b c : Bool) → c ≡ true → (b || c) ≡ true
 or-right true c e = refl
 or-right false c e = e

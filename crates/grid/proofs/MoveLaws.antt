@@ -9,6 +9,7 @@ use lib.Dec.{eqb, ltb}
 use lib.ListN.{length, set, take, drop, length-map, take-append-drop}
 use lib.Seq.{getD-take}
 use borrow.Author.Tests.{lt-ltb, le-ltb}
+use Rattle.laws.proofs.Tests.{and-false}
 use Rattle.graph.specs.declared.Ends.{Ends}
 use Rattle.graph.specs.Shape.{Shape}
 use Rattle.grid.specs.Lists.{largest, smallest}
@@ -66,10 +67,6 @@ module _ (pos low high : ℕ) where
 
   pub target-stays : low ≤ pos + 2 → pos ≤ low → pos ≡ target pos low high
   target-stays h k = rw (le-ltb (pos + 2) low h, le-ltb low pos k)
-
-  and-false : (t : Bool) → (t && false) ≡ false
-  and-false true = refl
-  and-false false = refl
 
   pub target-near : low ≤ pos + 2 → pos ≤ high + 2 → pos ≡ target pos low high
   target-near h k =

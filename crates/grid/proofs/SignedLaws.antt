@@ -13,9 +13,9 @@ use mir.Syntax.{w8}
 use mir.Val.{SFits, toZ, ofZ}
 use mir.Facts.{toZ-ofZ}
 use borrow.Author.Tests.{lt-ltb, le-ltb, le-leb, leb-true}
+use Rattle.laws.proofs.Tests.{less?}
 use Rattle.grid.specs.Heights.{lower}
 use Rattle.grid.specs.Walk.{raised, rowIf, rowIn, rowBy, signedBy, least, lesserOf, lowerBy, Above}
-use Rattle.grid.proofs.ListLaws.{less?}
 
 -- a row that an i8 holds
 pub fits : (z : ℤ) → natAbs z < 128 → SFits w8 z

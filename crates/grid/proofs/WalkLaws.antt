@@ -12,6 +12,7 @@ use mathlib.Core.List.{List, [], _∷_, _++_}
 use lib.Dec.{eqb}
 use lib.ListN.{length, getD, set, take, replicate, length-append, List·getD-append, List·getD-map}
 use lib.Seq.{getD-take, length-take-le, take-set-lt}
+use Rattle.laws.proofs.Tests.{less?, same?}
 use Rattle.graph.specs.declared.Ends.{Ends}
 use Rattle.grid.specs.declared.heights.Way.{Way}
 use Rattle.graph.specs.Shape.{Incidents, Shape, incidentsAt, noIncidents}
@@ -22,7 +23,6 @@ use Rattle.graph.specs.Ends.{targetsOf, endsOf, incidentsIn, shapeFrom}
 use Rattle.laws.specs.Lists.{keep}
 use Rattle.grid.specs.Walk.{OwnedUpto, OwnedFrom, Next, raised, rowIf, rowsIn, reachedIn, rowIn, rowsOf, noWay, waysFrom, waysIn, ways, rowBy, pick, visits}
 use Rattle.laws.proofs.Lists.{getD-tabulate, getD-any}
-use Rattle.grid.proofs.ListLaws.{same?, less?}
 
 -- the ways of one table
 pub length-ways : (b : Bool) (os ts : List ℕ) → length os ≡ length ts → length (waysFrom b os ts) ≡ length os

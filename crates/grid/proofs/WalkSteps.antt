@@ -13,6 +13,7 @@ use lib.Dec.{eqb}
 use lib.ListN.{length, getD, set, drop, length-set, replicate, getD-replicate, drop-of-length-le}
 use lib.Seq.{drop-cons, getD-set-same, getD-set-other}
 use borrow.Author.Tests.{eq-eqb, ne-eqb}
+use Rattle.laws.proofs.Tests.{less?, same?}
 use Rattle.graph.specs.declared.Ends.{Ends}
 use Rattle.grid.specs.declared.heights.Way.{Way}
 use Rattle.grid.specs.declared.heights.Frame.{Frame}
@@ -24,7 +25,6 @@ use Rattle.grid.specs.Heights.{Rows, fresh, enter, walkFrom, reachedFrom
 use Rattle.grid.specs.Walk.{ways, raised, reachedIn, reached, noWay, noFrame, rowBy, signedBy, pick, visits, resume, unseen, looks, answer, Next, Near, Good, Stepped}
 use Rattle.laws.specs.Lists.{stackOf}
 use Rattle.laws.proofs.Lists.{stack-last, set-replicate}
-use Rattle.grid.proofs.ListLaws.{same?, less?}
 use Rattle.grid.proofs.HeightLaws.{unseen-set, unseen-replicate}
 use Rattle.grid.proofs.SignedLaws.{raised-by, near-by}
 use Rattle.grid.proofs.WalkLaws.{ways-long, way-source, way-sink, reached-set, reached-fresh, reached-none}

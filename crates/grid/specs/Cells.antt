@@ -3,7 +3,6 @@
 use Prim.Native.Nat.{ℕ, _≤_, _<_}
 use mathlib.Core.Path.{_≡_}
 use mathlib.Core.Bool.{cond, _&&_}
-use mathlib.Core.Option.{Option, none, some}
 use mathlib.Core.List.{List, []}
 use lib.Dec.{leb, ltb}
 use lib.ListN.{getD, set, replicate}
@@ -31,11 +30,6 @@ placed bs k g =
 -- the rows of cells of a sheet, the boxes placed by rising number; none where the count is past the array
 unfoldable pub cellsIn : SheetRecord → List (List ℕ)
 cellsIn s = cond (leb (s .count) 48) (each noCells (placed (s .boxes)) (s .count)) noCells
-
--- what a cell shows of the box that the definition has there
-abbrev pub shown : Option ℕ → ℕ
-shown none = 255
-shown (some k) = k
 
 -- box k's record names the cell
 pub record Named (bs : List BoxRecord) (k r c : ℕ) : Type 0 where

@@ -1,3 +1,4 @@
 -- Laws of what specs/ defines.
 pub mod Each
 pub mod Lists
+pub mod Tests

@@ -8,8 +8,8 @@ use mathlib.Core.Bool.{Bool}
 use mathlib.Core.List.{List}
 use lib.ListN.{length, length-set}
 use lib.Seq.{getD-set-same, getD-set-other}
+use Rattle.laws.proofs.Tests.{same?}
 use Rattle.order.specs.Sums.{Two, pairAt, at, legOf, sumUp, gainOf, roundAt, pairStep, rowAfter, rowsAfter, Fits16, RoundFits}
-use Rattle.order.proofs.Stand.{same-or}
 use Rattle.order.proofs.Triangle.{pair-same, pair-below}
 
 pub up-same : (f g : ℕ → ℕ) (a m : ℕ) → ((i : ℕ) → i < m → f (suc a + i) ≡ g (suc a + i)) → sumUp f a m ≡ sumUp g a m
@@ -113,7 +113,7 @@ module _ (make : Bool) (n a : ℕ) (few : n ≤ 48) (t : Two) where
               spot-trans (pairStep make r a c) r t x y
               (step-other make r a c (omega arith) (omega arith) (w .long) x y h (λ e. elim o [ inl p ↦ p (e .0) | inr q ↦ omega (arith, e .1) ]))
               (w .same x y h k (elim o [ inl p ↦ inl p | inr q ↦ inr (omega arith) ]));
-          did = λ y h k i. elim (same-or y c) [
+          did = λ y h k i. elim (same? y c) [
             | inl e ↦ rw e row-did
             | inr o ↦
                 spot-did make (pairStep make r a c) r t a y (step-other make r a c (omega arith) (omega arith) (w .long) a y h (λ e. o (e .1)))
@@ -143,7 +143,7 @@ module _ (make : Bool) (n : ℕ) (few : n ≤ 48) (t : Two) where
       record {
         long = v .long;
         same = λ x y h k i. spot-trans s r t x y (v .same x y h k (inl (λ e. omega arith))) (w .same x y h k (omega arith));
-        did = λ x y h k i. elim (same-or x a) [
+        did = λ x y h k i. elim (same? x a) [
           | inl e ↦
               let u : a < y = omega arith in
               let d = v .did y u k (omega arith) in

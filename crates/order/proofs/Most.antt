@@ -10,12 +10,12 @@ use mathlib.Core.List.{List, [], _∷_, map}
 use lib.Dec.{eqb, ltb}
 use lib.ListN.{length, length-map}
 use borrow.Author.Tests.{eq-eqb, ne-eqb}
+use Rattle.laws.proofs.Tests.{same?}
 use Rattle.graph.specs.Shape.{Shape}
 use Rattle.laws.specs.Lists.{tally}
 use Rattle.order.specs.Against.{Against, against, all}
 use Rattle.order.specs.Weights.{first}
 use Rattle.order.specs.Sums.{Two, at, legAt, legOf, sumUp, gainOf, roundAt, rowsAfter, Fits16, Codes}
-use Rattle.order.proofs.Stand.{same-or}
 use Rattle.order.proofs.Rounds.{ups, before-first, after-first}
 use Rattle.order.proofs.InPlace.{rows, up-same}
 use Rattle.order.proofs.Hold.{Hold}
@@ -56,7 +56,7 @@ one-most : (q a m : ℕ) → sumUp (one q) a m ≤ 1
 unfolding sumUp
 one-most q a zero = omega arith
 one-most q a (suc m) =
-    elim (same-or q (suc a + m)) [
+    elim (same? q (suc a + m)) [
       | inl e ↦ omega (arith, one-past q a m (omega arith), one-le (eqb q (suc a + m)))
       | inr n ↦ let z : one q (suc a + m) ≡ 0 = rw (ne-eqb q (suc a + m) n) in omega (arith, one-most q a m)
     ]
@@ -79,7 +79,7 @@ module _ (p q a m : ℕ) where
 
   pub hits-most : hit a d + sumUp (λ b. hit a b + hit b d) a m ≤ 1
   hits-most =
-      elim (same-or p a) [
+      elim (same? p a) [
         | inl e ↦
             let s : sumUp (λ b. hit a b + hit b d) a m ≡ sumUp (one q) a m =
             up-same (λ b. hit a b + hit b d) (one q) a m
@@ -89,7 +89,7 @@ module _ (p q a m : ℕ) where
             let v : hit a (suc a + i) ≡ one q (suc a + i) = rw (eq-eqb p a e) in
             omega arith) in
             let t : hit a d ≡ one q d = rw (eq-eqb p a e) in
-            elim (same-or q d) [
+            elim (same? q d) [
               | inl k ↦ omega (arith, s, t, one-past q a m (omega arith), one-le (eqb q d))
               | inr n ↦ let z : one q d ≡ 0 = rw (ne-eqb q d n) in omega (arith, s, t, one-most q a m)
             ]

@@ -13,6 +13,7 @@ use lib.Dec.{eqb, leb, ltb}
 use lib.ListN.{length, getD, take, length-append, length-map}
 use lib.Seq.{sets, getD-take}
 use borrow.Author.Tests.{eq-eqb, ne-eqb}
+use Rattle.laws.proofs.Tests.{same?}
 use Rattle.laws.specs.Lists.{one, tabulate, keep, padded, tally}
 use Rattle.laws.proofs.Lists.{length-tabulate, keep-append, take-padded, take-sets, sets-append}
 use Rattle.graph.specs.declared.Ends.{Ends}
@@ -22,7 +23,6 @@ use Rattle.order.specs.Against.{Against, against, neighbours, neighbours
 use Rattle.order.specs.Claims.{Under, Aimed}
 use Rattle.order.specs.Sums.{codeOf, Codes}
 use Rattle.order.specs.Codes.{neighbourCode, neighbourCodes, pairCode, pairCodes, withFrom, listCodes, nodeCodes}
-use Rattle.order.proofs.Stand.{same-or}
 use Rattle.order.proofs.Legs.{sumTo, sum-zero, sum-same}
 
 -- ---- the targets of a node
@@ -235,7 +235,7 @@ sum-past n o g h = sum-same n (λ q. tally (eqb o q) (g q)) g (λ b l. rw (ne-eq
 sum-tally : (n o : ℕ) (g : ℕ → ℕ) → sumTo n (λ q. tally (eqb o q) (g q)) ≤ suc (sumTo n g)
 sum-tally zero o g = omega arith
 sum-tally (suc n) o g =
-    elim (same-or o n) [
+    elim (same? o n) [
       | inl e ↦ rw (eq-eqb o n e) (omega (arith, sum-past n o g (omega arith)))
       | inr d ↦ rw (ne-eqb o n d) (omega (arith, sum-tally n o g))
     ]

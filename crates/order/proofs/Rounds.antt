@@ -11,6 +11,7 @@ use mathlib.Core.List.{List, [], _∷_, _++_, map}
 use lib.Dec.{eqb, ltb, leb}
 use lib.ListN.{length}
 use borrow.Author.Tests.{eq-eqb, ne-eqb, eqb-true, lt-ltb, le-ltb, ltb-true, ltb-false}
+use Rattle.laws.proofs.Tests.{same?}
 use Rattle.graph.specs.Shape.{Shape}
 use Rattle.laws.specs.Lists.{All, tally}
 use Rattle.laws.proofs.Lists.{all-map, all-join}
@@ -18,7 +19,6 @@ use Rattle.order.specs.Against.{Against, all}
 use Rattle.order.specs.Weights.{Pair, Table, of, stands, more, raise, add, count, counted, beforeOf, afterOf, placed, region, both, additions, apply, applied, round, first}
 use Rattle.order.specs.Claims.{Aimed}
 use Rattle.order.proofs.Nodes.{Both, both-all}
-use Rattle.order.proofs.Stand.{same-or}
 use Rattle.order.proofs.Tables.{true-false, and-left, and-right, of-smaller, of-larger, of-here, pair, valueOf, value-missing, before-value, after-value, sumOf, Made, Unmade, stands-raise, stands-end, value-add, value-add-other, applied-sum, applied-missing}
 use Rattle.order.proofs.Legs.{Distinct, sumTo, leg, round-sum}
 
@@ -233,7 +233,7 @@ module _ (w : Sum) (w' : ℕ → ℕ → ℕ) (r : Reads w w') (n : ℕ) (t : Ta
 -- ---- what one node against another adds
 module _ (w : Sum) (w' : ℕ → ℕ → ℕ) (r : Reads w w') where
   plus : (a b x y : ℕ) (t : Table) → a < b → valueOf w a b (add true true x y 1 0 t) ≡ valueOf w a b t + cond (eqb x a && eqb y b) (w' 1 0) 0
-  plus a b x y t l = go (same-or x a) (same-or y b)
+  plus a b x y t l = go (same? x a) (same? y b)
     where
       other : ((a ≡ x) × (b ≡ y) → ⊥) → (eqb x a && eqb y b) ≡ false → valueOf w a b (add true true x y 1 0 t) ≡ valueOf w a b t + cond (eqb x a && eqb y b) (w' 1 0) 0
       other o e = value-add-other w w' (r .grows) (r .fresh) (r .reads) a b x y 1 0 true true t o ∙ rw e (omega arith)
@@ -244,7 +244,7 @@ module _ (w : Sum) (w' : ℕ → ℕ → ℕ) (r : Reads w w') where
       go (inl p) (inr q) = other (λ e. q (sym (e .1))) (rw (eq-eqb x a p, ne-eqb y b q))
 
   minus : (a b x y : ℕ) (t : Table) → a < b → valueOf w a b (add true true x y 0 1 t) ≡ valueOf w a b t + cond (eqb y b && eqb x a) (w' 0 1) 0
-  minus a b x y t l = go (same-or x a) (same-or y b)
+  minus a b x y t l = go (same? x a) (same? y b)
     where
       other : ((a ≡ x) × (b ≡ y) → ⊥) → (eqb y b && eqb x a) ≡ false → valueOf w a b (add true true x y 0 1 t) ≡ valueOf w a b t + cond (eqb y b && eqb x a) (w' 0 1) 0
       other o e = value-add-other w w' (r .grows) (r .fresh) (r .reads) a b x y 0 1 true true t o ∙ rw e (omega arith)

@@ -11,6 +11,7 @@ use lib.Dec.{eqb, ltb}
 use lib.ListN.{length, getD, set, replicate, length-set, length-append, length-replicate, getD-replicate, List·getD-append}
 use lib.Seq.{getD-set-same, getD-set-other, getD-append-add}
 use borrow.Author.Tests.{eq-eqb, ne-eqb, eqb-true, eqb-false, ltb-true, ltb-false}
+use Rattle.laws.proofs.Tests.{less?, same?}
 use Rattle.order.specs.declared.NodeNumber.{NodeNumber}
 use Rattle.order.specs.declared.chains.Colour.{Colour}
 use Rattle.order.specs.declared.chains.Held.{Held}
@@ -141,20 +142,6 @@ module _ (n : ℕ) (few : n ≤ 48) where
       }
 
 -- ---- two numbers are the same or not, one is below the other or not
-pub same-or : (a b : ℕ) → (a ≡ b) ⊎ (a ≡ b → ⊥)
-same-or a b = of (eqb a b) refl
-  where
-    of : (t : Bool) → eqb a b ≡ t → (a ≡ b) ⊎ (a ≡ b → ⊥)
-    of true e = inl (eqb-true a b e)
-    of false e = inr (eqb-false a b e)
-
-pub below-or : (a b : ℕ) → (a < b) ⊎ (b ≤ a)
-below-or a b = of (ltb a b) refl
-  where
-    of : (t : Bool) → ltb a b ≡ t → (a < b) ⊎ (b ≤ a)
-    of true e = inl (ltb-true a b e)
-    of false e = inr (ltb-false a b e)
-
 -- ---- the chain y joined to the chain x
 module _ (cs : Chains) (x y : ℕ) (l : x < length cs) (k : y < length cs) (ne : x ≡ y → ⊥) where
   abbrev A : List ℕ
@@ -222,14 +209,14 @@ module _ (n : ℕ) (cs : Chains) (h : Held) (s : Stand n cs h) (x y : ℕ) (l : 
   joined-at p i =
       let a = s .at p i in
       let c = colourAt h p in
-      elim (same-or c y) [
+      elim (same? c y) [
         | inl e ↦
             let w : chain cs c ≡ chain cs y = ap (chain cs) e in
             at-made p x (length (chain cs x) + placeAt h p) (chain cs x ++ chain cs y) l first
             (omega (arith, length-append (chain cs x) (chain cs y), a .place, ap (λ (v : List ℕ). length v) w))
             (getD-append-add (chain cs x) (chain cs y) (placeAt h p) 0 ∙ ap (λ (v : List ℕ). getD v (placeAt h p) 0) (sym w) ∙ a .node)
             (colour-y p i e) (place-y p i e)
-        | inr o ↦ elim (same-or c x) [
+        | inr o ↦ elim (same? c x) [
           | inl e ↦
               let w : chain cs c ≡ chain cs x = ap (chain cs) e in
               let j : placeAt h p < length (chain cs x) = omega (arith, a .place, ap (λ (v : List ℕ). length v) w) in
@@ -255,12 +242,12 @@ module _ (n : ℕ) (cs : Chains) (h : Held) (s : Stand n cs h) (x y : ℕ) (l : 
 
   joined-has : (j i : ℕ) → j < n → i < length (chain ds j) → Has n h' j i (getD (chain ds j) i 0)
   joined-has j i b m =
-      elim (same-or j y) [
+      elim (same? j y) [
         | inl e ↦ absurd (omega (arith, m, ap (λ (v : List ℕ). length v) (ap (chain ds) e ∙ second)))
-        | inr o ↦ elim (same-or j x) [
+        | inr o ↦ elim (same? j x) [
           | inl e ↦
               let w : chain ds j ≡ chain cs x ++ chain cs y = ap (chain ds) e ∙ first in
-              elim (below-or i (length (chain cs x))) [
+              elim (less? i (length (chain cs x))) [
                 | inl u ↦
                     rw (e) (has-other x i (getD (chain ds x) i 0) l ne u (sym (ap (λ (v : List ℕ). getD v i 0) first ∙ List·getD-append (chain cs x) (chain cs y) 0 i u)))
                 | inr u ↦
@@ -284,11 +271,11 @@ module _ (n : ℕ) (cs : Chains) (h : Held) (s : Stand n cs h) (x y : ℕ) (l : 
 
   joined-lengths : (j : ℕ) → j < n → lengthAt (h' .lengths) j ≡ length (chain ds j)
   joined-lengths j b =
-      elim (same-or j y) [
+      elim (same? j y) [
         | inl e ↦ rw (e, second) (getD-set-same (set (h .lengths) x sum) y 0 0 (rw (length-set (h .lengths) x sum) (omega (arith, s .tops .lengths-long, s .tops .few))))
         | inr o ↦
             let past : lengthAt (h' .lengths) j ≡ lengthAt (set (h .lengths) x sum) j = getD-set-other (set (h .lengths) x sum) y j 0 0 o in
-            elim (same-or j x) [
+            elim (same? j x) [
               | inl e ↦
                   past ∙ ap (lengthAt (set (h .lengths) x sum)) e ∙ getD-set-same (h .lengths) x sum 0 (omega (arith, s .tops .lengths-long, s .tops .few))
                   ∙ rw (e, first, length-append) (omega (arith, s .tops .lengths x l, s .tops .lengths y k))
@@ -298,13 +285,13 @@ module _ (n : ℕ) (cs : Chains) (h : Held) (s : Stand n cs h) (x y : ℕ) (l : 
 
   joined-firsts : (j : ℕ) → j < n → firstAt (h' .firsts) j ≡ getD (chain ds j) 0 0
   joined-firsts j b =
-      elim (same-or j y) [
+      elim (same? j y) [
         | inl e ↦
             ap (firstAt (h' .firsts)) e ∙ ap (λ (f : NodeNumber). f .0) (getD-set-same (h .firsts) y (number 0) (number 0) (omega (arith, s .tops .firsts-long, s .tops .few)))
             ∙ sym (ap (λ (v : List ℕ). getD v 0 0) (ap (chain ds) e ∙ second))
         | inr o ↦
             let past : firstAt (h' .firsts) j ≡ firstAt (h .firsts) j = ap (λ (f : NodeNumber). f .0) (getD-set-other (h .firsts) y j (number 0) (number 0) o) in
-            elim (same-or j x) [
+            elim (same? j x) [
               | inl e ↦
                   past ∙ s .tops .firsts j b ∙ ap (λ (v : ℕ). getD (chain cs v) 0 0) e
                   ∙ sym (ap (λ (v : List ℕ). getD v 0 0) (ap (chain ds) e ∙ first) ∙ head-append (chain cs x) (chain cs y) some)

@@ -12,13 +12,13 @@ use lib.Dec.{eqb, ltb}
 use lib.ListN.{length, getD, set, take, length-set, List·getD-map}
 use lib.Seq.{getD-set-same, getD-set-other, getD-take, take-suc, take-length}
 use borrow.Author.Tests.{eq-eqb, ne-eqb, eqb-true, ltb-true, ltb-false}
+use Rattle.laws.proofs.Tests.{same?}
 use Rattle.graph.specs.Shape.{Shape}
 use Rattle.laws.specs.Lists.{tally}
 use Rattle.order.specs.Against.{Against, against, all}
 use Rattle.order.specs.Weights.{first}
 use Rattle.order.specs.Sums.{pairAt, at, codeOf, firstIn, secondIn, bumpOf, befores, afters, Coded, Codes}
 use Rattle.order.proofs.Nodes.{Both, both-all}
-use Rattle.order.proofs.Stand.{same-or}
 use Rattle.order.proofs.Triangle.{pair-same, pair-below}
 use Rattle.order.proofs.Tables.{and-left, and-right}
 use Rattle.order.proofs.Rounds.{ups, before-first, after-first}
@@ -27,7 +27,7 @@ use Rattle.order.proofs.Hold.{Hold}
 -- ---- one more for a pair
 module _ (l : List ℕ) (long : length l ≡ 1128) (p q a b : ℕ) (h : q < 48) (i : a < b) (j : b < 48) where
   bump-yes : p < q → at (set l (pairAt p q) (at l p q + 1)) a b ≡ at l a b + cond (eqb p a && eqb q b) 1 0
-  bump-yes k = go (same-or p a) (same-or q b)
+  bump-yes k = go (same? p a) (same? q b)
     where
       other : ((a ≡ p) × (b ≡ q) → ⊥) → (eqb p a && eqb q b) ≡ false → at (set l (pairAt p q) (at l p q + 1)) a b ≡ at l a b + cond (eqb p a && eqb q b) 1 0
       other o e = getD-set-other l (pairAt p q) (pairAt a b) (at l p q + 1) 0 (λ z. o (pair-same a b p q i k z)) ∙ rw e (omega arith)

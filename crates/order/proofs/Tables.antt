@@ -8,6 +8,7 @@ use mathlib.Core.Bool.{Bool, true, false, cond, _||_, _&&_}
 use mathlib.Core.List.{List, [], _∷_, _++_}
 use lib.Dec.{eqb}
 use borrow.Author.Tests.{eq-eqb, eqb-true}
+use Rattle.laws.proofs.Tests.{or-assoc, pick}
 use Rattle.laws.specs.Lists.{All}
 use Rattle.order.specs.Weights.{Pair, Table, of, stands, more, raise, add, beforeOf, afterOf, apply, applied}
 
@@ -41,10 +42,6 @@ module _ (a b c d x y : ℕ) where
   pub stands-raise : (t : Table) → stands a b (raise c d x y t) ≡ stands a b t
   stands-raise [] = refl
   stands-raise (e ∷ es) = cc (keep-of e (of c d e), stands-raise es)
-
-or-assoc : (a b c : Bool) → (a || (b || c)) ≡ ((a || b) || c)
-or-assoc true b c = refl
-or-assoc false b c = refl
 
 or-none : (a : Bool) → (a || false) ≡ a
 or-none true = refl
@@ -148,10 +145,6 @@ module _ (a b x y : ℕ) (make flag : Bool) (t : Table) where
 
   pub add-dropped : stands a b t ≡ false → make ≡ false → add make flag a b x y t ≡ t
   add-dropped h m = rw (h, m)
-
-pick : {A : Type 0} (P : A → Type 0) (b : Bool) (x y : A) → P x → P y → P (cond b x y)
-pick P true x y p q = p
-pick P false x y p q = q
 
 pub of-other : (a b c d x y : ℕ) (flag : Bool) → ((a ≡ c) × (b ≡ d) → ⊥) → of a b (pair c d x y flag) ≡ false
 of-other a b c d x y flag o = apart a b c d o (pair c d x y flag) (of-here c d (pair c d x y flag) refl refl)

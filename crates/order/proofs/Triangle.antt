@@ -5,8 +5,8 @@ use native.Mathlib.Omega.{arith}
 use native.Mathlib.Nat.{mul-le-mul, mul-suc, suc-mul}
 use mathlib.Core.Logic.{inl, inr}
 use mathlib.Core.Path.{_≡_, refl, ap, sym, _∙_}
+use Rattle.laws.proofs.Tests.{less?, same?}
 use Rattle.order.specs.Sums.{pairAt}
-use Rattle.order.proofs.Stand.{same-or, below-or}
 
 pub pair-product : (b : ℕ) → b < 48 → b * (b - 1) ≤ 2162
 pair-product b k = mul-le-mul {n₁ = b} {m₁ = b - 1} {n₂ = 47} {m₂ = 46} (omega arith) (omega arith)
@@ -48,9 +48,9 @@ row-less a b c d h l =
 -- another place for each pair
 pub pair-same : (a b c d : ℕ) → a < b → c < d → pairAt a b ≡ pairAt c d → (a ≡ c) × (b ≡ d)
 pair-same a b c d h k e =
-    elim (same-or b d) [
+    elim (same? b d) [
       | inl q ↦ let t : tri b ≡ tri d = ap tri q in (omega arith, q)
-      | inr o ↦ elim (below-or b d) [
+      | inr o ↦ elim (less? b d) [
         | inl l ↦ absurd (omega (arith, row-less a b c d h l))
         | inr l ↦ absurd (omega (arith, row-less c d a b k (strict b d o l)))
       ]

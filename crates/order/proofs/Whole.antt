@@ -10,6 +10,7 @@ use lib.Dec.{ltb}
 use lib.ListN.{length, getD, take, replicate, length-map, length-replicate}
 use lib.Seq.{take-suc, take-length, length-take-le, take-at}
 use borrow.Author.Tests.{eq-eqb, ne-eqb, lt-ltb, le-ltb}
+use Rattle.laws.proofs.Tests.{less?, same?}
 use Rattle.graph.specs.Shape.{Shape}
 use Rattle.order.specs.Against.{Against, all}
 use Rattle.order.specs.Weights.{Table, stands, beforeOf, afterOf, round, first, weights}
@@ -22,7 +23,7 @@ use Rattle.order.specs.Keys.{keyOf, heldAfter, Keyed}
 use Rattle.order.specs.Sums.{Two, at, firstIn, secondIn, pairKey, keyAt, keysAfter, rowsAfter, tallied, weighed, Weighable, Codes, Charted}
 use Rattle.order.proofs.Nodes.{Sound, Both, both-all, Firsts, firsts-map, firsts-rising, firsts-triples, sound-chains, each-once}
 use Rattle.order.proofs.Fills.{filled-whole}
-use Rattle.order.proofs.Stand.{same-or, below-or, fit}
+use Rattle.order.proofs.Stand.{fit}
 use Rattle.order.proofs.Lay.{left, gone, going, ready, here-inside, columns-are}
 use Rattle.order.proofs.Sorted.{inserted-is, length-inserted, Small, Smalls, smalls, placed-keys, stand-after, keyed}
 use Rattle.order.proofs.Tables.{value-missing, before-value, after-value}
@@ -48,13 +49,13 @@ module _ (n : ℕ) (t : Table) (f : Fine n t) (s : Two) (h : Hold n t s) where
 
   pub key-is : (c : Against) → c .first < n → c .second < n → keyAt (s .befores) (s .afters) (c .first) (c .second) ≡ keyOf (tripleOf t c)
   key-is c i j =
-      elim (same-or (c .first) (c .second)) [
+      elim (same? (c .first) (c .second)) [
         | inl e ↦
             let m : stands (c .second) (c .second) t ≡ false = not-rising n (c .second) (c .second) t (f .each) (omega arith) in
             let x : beforeOf (c .second) (c .second) t ≡ 0 = before-value (c .second) (c .second) t ∙ value-missing (λ w. w .before) (c .second) (c .second) t m in
             let y : afterOf (c .second) (c .second) t ≡ 0 = after-value (c .second) (c .second) t ∙ value-missing (λ w. w .after) (c .second) (c .second) t m in
             rw (e, eq-eqb (c .second) (c .second) refl, le-ltb (c .second) (c .second) (omega arith), x, y) (omega arith)
-        | inr o ↦ elim (below-or (c .first) (c .second)) [
+        | inr o ↦ elim (less? (c .first) (c .second)) [
           | inl l ↦ rw (ne-eqb (c .first) (c .second) o, lt-ltb (c .first) (c .second) l) (pair-key (c .first) (c .second) l j)
           | inr l ↦ rw (ne-eqb (c .first) (c .second) o, le-ltb (c .first) (c .second) l) (pair-key (c .second) (c .first) (strict (c .first) (c .second) o l) i)
         ]

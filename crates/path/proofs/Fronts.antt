@@ -10,6 +10,7 @@ use borrow.Author.Tests.{ltb-true, ltb-false, eq-eqb, ne-eqb}
 use lib.Dec.{eqb, leb, ltb}
 use lib.ListN.{length, take, getD}
 use lib.Seq.{take-length}
+use Rattle.laws.proofs.Tests.{and-false}
 use Rattle.path.specs.declared.reader.Phase.{Phase}
 use Rattle.path.specs.declared.reader.Phase.the-variants.{Begin, Letter, Lettered, Digit, Number, Point, Halved, Stopped}
 use Rattle.path.specs.declared.reader.Act.{Act}
@@ -26,7 +27,7 @@ use Rattle.path.proofs.Backs.{wordsBack, front, back, whole, back-text}
 use Rattle.path.proofs.Backs as backs
 use Rattle.path.proofs.Readings.{part, Last, begin, afterSegment, afterLetter, afterSpace, inNumber, afterPoint, afterHalf, Held, held, halted, read-held}
 use Rattle.path.proofs.Wholes.{read-next}
-use Rattle.path.proofs.Writings.{run-append, isWord, and-false, a-digit, letter-wants}
+use Rattle.path.proofs.Writings.{run-append, isWord, a-digit, letter-wants}
 
 -- ---- a profile text is taken to its end
 -- at the end of a word, with l numbers to come

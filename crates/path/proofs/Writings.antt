@@ -8,6 +8,7 @@ use native.Mathlib.Omega.{arith}
 use borrow.Author.Tests.{ltb-true, ltb-false, ne-eqb, le-leb, lt-leb, le-ltb}
 use lib.Dec.{eqb, ltb}
 use lib.ListN.{length}
+use Rattle.laws.proofs.Tests.{and-false}
 use Rattle.path.specs.declared.reader.Phase.{Phase}
 use Rattle.path.specs.declared.reader.Phase.the-variants.{Begin, Letter, Lettered, Digit, Number, Point, Halved, Stopped}
 use Rattle.path.specs.declared.drawn.Drawn.{Drawn}
@@ -73,10 +74,6 @@ pub record Word (r : Reading) (l x : ℕ) (y : Bool) (q : ℕ) (ps : List Part) 
   pub begun : ℕ
   pub end : isWord phase ≡ true
   pub same : r ≡ mk phase l value begun x y q ps
-
-pub and-false : (t : Bool) → (t && false) ≡ false
-and-false true = refl
-and-false false = refl
 
 -- a space there
 pub space-read : (p : Phase) (at l v g x : ℕ) (y : Bool) (q : ℕ) (ps : List Part) → isWord p ≡ true
