@@ -24,3 +24,4 @@ pub mod CellLaws
 pub mod TextLaws
 pub mod BoxTheorem
 pub mod Sheets
+pub mod LabelPlaces

@@ -52,7 +52,7 @@ node-kept : (g h : Graph) (k : ℕ) → Texts g h k → edgeBytes (nodeAt h k) �
 node-kept g h k t = cc (bytes-kept (nodeAt g k .sources) (nodeAt h k .sources) (t .sources), bytes-kept (nodeAt g k .sinks) (nodeAt h k .sinks) (t .sinks))
 
 -- ---- an inserted node has none
-abbrev Blank : Node → Type 0
+abbrev pub Blank : Node → Type 0
 Blank x = edgeBytes x ≡ 0
 
 -- the two nodes of a cut
@@ -122,7 +122,7 @@ module _ (s : List ℕ) (d : Dag) (laws : Laws s d) where
   long : length old ≡ length ps
   long = length-map ps givenNode
 
-  blank : All Blank (drop (length old) (d .graph))
+  pub blank : All Blank (drop (length old) (d .graph))
   blank = subst (λ (x : Dag). All Blank (drop (length old) (x .graph))) (sym (laws .walk)) (rw (← complete-length old) (inserted-blank (complete old)))
 
   few-bytes : total (map edgeBytes (d .graph)) ≤ 64 * 24

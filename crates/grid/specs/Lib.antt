@@ -10,6 +10,7 @@ pub mod Curves
 pub mod Sheeted
 pub mod Cells
 pub mod Labels
+pub mod Labelled
 pub mod SheetTheorem
 pub mod BoxTheorem
 pub mod Arrays

@@ -30,7 +30,7 @@ pub struct Seek {
 }
 
 // Not in these texts.
-fn not_here(left: usize) -> Seek
+pub fn not_here(left: usize) -> Seek
     ensures { λ r. ⌜ r ≡ notHere left ⌝ }
 {
     let none = LabelPlace {

@@ -8,6 +8,7 @@ ghost use Rattle.grid.specs.RenderGrid.{sheet};
 ghost use Rattle.grid.specs.Curves.{recordOf};
 ghost use Rattle.grid.specs.Sheeted.{within as withinOf, refusal, outcomeOf, fittedOf};
 ghost use Rattle.grid.specs.BoxTheorem.{IsSheet};
+ghost use Rattle.grid.specs.Labelled.{refusal as noPlace, labelled, labelOutcomeOf};
 use chart::Answer;
 use graph::Tables;
 pub use placing::cells;
@@ -80,6 +81,12 @@ pub struct LabelPlace {
     pub number: u8,
 }
 
+// The place of a label; refused, every field of it is 0.
+pub struct LabelOutcome {
+    pub answer: Answer,
+    pub place: LabelPlace,
+}
+
 // A refused chart.
 fn refused(number: u8, second: u32) -> Outcome
     ensures { λ r. ⌜ r ≡ outcomeOf 0 0 (refusal number second) ⌝ }
@@ -142,5 +149,42 @@ pub fn sheet(chart: &[u8], x: u32, y: u32) -> Outcome
     match answer {
         Answer::Ready => fit(lay_out(g, first, x, y)),
         Answer::Refused(number, second) => refused(number, second),
+    }
+}
+
+// A refused label.
+fn no_place(number: u8, second: u32) -> LabelOutcome
+    ensures { λ r. ⌜ r ≡ labelOutcomeOf (noPlace number second) ⌝ }
+{
+    let none = label::not_here(0).place;
+    LabelOutcome {
+        answer: Answer::Refused(number, second),
+        place: none,
+    }
+}
+
+// Label i of box k of the chart's sheet, or the first refusal of 1 to 15; the chart is laid out anew.
+pub fn label_place(chart: &[u8], x: u32, y: u32, k: usize, i: usize) -> LabelOutcome
+    ensures { λ r. ⌜ r ≡ labelOutcomeOf (labelled (now (chart .entry)) x y k i) ⌝ }
+{
+    let laid = sheet(chart, x, y);
+    let r = graph::graph(chart);
+    let s = laid.sheet;
+    let answer = laid.answer;
+    let g = r.graph;
+    match answer {
+        Answer::Ready => {
+            let place = label::label_of(g, s, k, i);
+            if place.found {
+                return LabelOutcome {
+                    answer: Answer::Ready,
+                    place: place,
+                };
+            }
+            return no_place(15, 0);
+        }
+        Answer::Refused(number, second) => {
+            return no_place(number, second);
+        }
     }
 }

@@ -21,3 +21,4 @@ pub mod Fronts
 pub mod Larges
 pub mod Laws
 pub mod Labels
+pub mod LabelCalls

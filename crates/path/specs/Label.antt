@@ -7,8 +7,12 @@ use mathlib.Core.List.{List, [], _∷_, _++_}
 use lib.Dec.{leb}
 use lib.ListN.{length, take, drop}
 use denote.Ref.{RefT}
-use Rattle.laws.specs.Bytes.{ascii}
+use Rattle.laws.specs.Bytes.{ascii, same}
+use Rattle.chart.specs.declared.Answer.the-variants.{Ready, Refused}
+use Rattle.grid.specs.declared.LabelPlace.{LabelPlace}
+use Rattle.grid.specs.Labelled.{Labelled, ready, refusal}
 use Rattle.path.specs.declared.label.Span.{Span}
+use Rattle.path.specs.declared.LabelAnswer.{LabelAnswer}
 use Rattle.path.specs.Number.{digits}
 
 -- r is the part of s from a to e, and not a copy: it points into s, a elements from its start
@@ -49,3 +53,25 @@ standIns-are = refl
 -- where `#q` stands: after those before it
 abbrev pub standInSpan : ℕ → Span
 standInSpan q = record { at = length (standInsTo q); end = length (standInsTo q) + length (standIn q) }
+
+-- ---- what the two calls answer, by the label that the chart has or by its refusal
+-- 15: 'or a lent table that isn't the fixed texts', even if the label's text is in the chart; 1 to 14 come first
+abbrev pub tabled : List ℕ → Labelled → Labelled
+tabled t (ready p) = cond (same t standIns) (ready p) (refusal 15 0)
+tabled t (refusal number second) = refusal number second
+
+-- 'its place, size and width, or the refusal', all of whose numbers are 0
+abbrev pub answerIn : Labelled → LabelAnswer
+answerIn (ready p) = record { answer = Ready; x = p .x; y = p .y; size = p .size; width = p .width }
+answerIn (refusal number second) = record { answer = Refused number second; x = 0; y = 0; size = 0; width = 0 }
+
+abbrev pub labelAnswerOf : List ℕ → Labelled → LabelAnswer
+labelAnswerOf t l = answerIn (tabled t l)
+
+-- 'the other the part, which if refused is the empty one at the chart's start'
+abbrev pub placeIn : Labelled → Place
+placeIn (ready p) = cond (p .fixed) (table (standInSpan (p .number) .at) (standInSpan (p .number) .end)) (chart (p .at) (p .at + p .len))
+placeIn (refusal number second) = chart 0 0
+
+abbrev pub labelPartOf : List ℕ → Labelled → Place
+labelPartOf t l = placeIn (tabled t l)

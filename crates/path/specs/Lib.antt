@@ -15,3 +15,4 @@ pub mod Meaning
 pub mod Label
 pub mod Cases
 pub mod Starred
+pub mod LabelCases

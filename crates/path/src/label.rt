@@ -1,9 +1,11 @@
-// Labels: a text that is a part of the chart or of the stand-in table, and that table. (The label calls are put together above the layout.)
+// Labels: a text that is a part of the chart or of the stand-in table, and that table.
 ghost use mathlib.Core.Path.{_≡_};
 ghost use Prim.Native.Nat.{_<_};
 ghost use lib.ListN.{length, getD};
 ghost use Rattle.laws.specs.Bytes.{same};
+ghost use Rattle.grid.specs.Labels.{noLabel};
 ghost use Rattle.path.specs.Label.{partAt, IsAt, standIns, standInSpan};
+use grid::LabelPlace;
 
 // From `at` up to `end`.
 pub struct Span {
@@ -72,5 +74,22 @@ pub fn stand_in(q: u8) -> Span
     Span {
         at: 3 * n - 10,
         end: 3 * n - 7,
+    }
+}
+
+// No label.
+pub fn no_place() -> LabelPlace
+    ensures { λ r. ⌜ r ≡ noLabel ⌝ }
+{
+    LabelPlace {
+        found: false,
+        x: 0,
+        y: 0,
+        size: 0,
+        width: 0,
+        fixed: false,
+        at: 0,
+        len: 0,
+        number: 0,
     }
 }

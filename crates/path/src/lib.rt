@@ -1,11 +1,19 @@
-// Document 01, module 9: the segments of a sheet, its whole text, and a path text read and written again.
+// Document 01, module 9: the segments of a sheet, its whole text, a path text read and written again, and labels.
 // A sheet and a path text each give segments or a refusal (`sheetAnswer`, `read`); the promises say what of these is handed out or written.
 ghost use mathlib.Core.Path.{_≡_};
 ghost use Rattle.path.specs.Reader.{read};
 ghost use Rattle.path.specs.Answers.{sheetAnswer, countOf, givenOf, writtenOf, leftOf};
+ghost use Rattle.grid.specs.Labelled.{labelled, labelOutcomeOf};
+ghost use Rattle.path.specs.Label.{IsAt, tabled, labelAnswerOf, labelPartOf};
+use chart::Answer;
 use drawn::segment_of;
+use grid::LabelOutcome;
 use grid::SheetRecord;
 use grid::sound;
+use label::is_stand_ins;
+use label::no_place;
+use label::part_of;
+use label::stand_in;
 use pass::drawn_six;
 use pass::pass_over;
 use reader::Verdict;
@@ -58,6 +66,15 @@ pub enum Counted {
 pub enum Written {
     Done(usize),
     Refused(u8, usize),
+}
+
+// A label's place, size and width; refused, all of them 0.
+pub struct LabelAnswer {
+    pub answer: Answer,
+    pub x: u32,
+    pub y: u32,
+    pub size: u32,
+    pub width: u32,
 }
 
 // Segment k of a sheet: 14, then 15.
@@ -143,6 +160,87 @@ pub fn rewrite(text: &[u8], buf: &mut [u8]) -> Written
         }
         Verdict::Refused(a, p) => {
             return Written::Refused(a, p);
+        }
+    }
+}
+
+// Label i of box k of the chart's sheet at the origin x y, with a table lent beside the chart: 1 to 15.
+fn find_label(chart: &[u8], x: u32, y: u32, table: &[u8], k: usize, i: usize) -> LabelOutcome
+    ensures { λ r. ⌜ r ≡ labelOutcomeOf (tabled (now (table .entry)) (labelled (now (chart .entry)) x y k i)) ⌝ }
+{
+    let l = grid::label_place(chart, x, y, k, i);
+    let answer = l.answer;
+    let place = l.place;
+    match answer {
+        Answer::Ready => {
+            if is_stand_ins(table) {
+                return LabelOutcome {
+                    answer: Answer::Ready,
+                    place: place,
+                };
+            }
+            return LabelOutcome {
+                answer: Answer::Refused(15, 0),
+                place: no_place(),
+            };
+        }
+        Answer::Refused(number, second) => {
+            return LabelOutcome {
+                answer: Answer::Refused(number, second),
+                place: no_place(),
+            };
+        }
+    }
+}
+
+// Where label i of box k of the chart's sheet stands, its size and its width: 1 to 15.
+pub fn label_place(
+    chart: &[u8],
+    x: u32,
+    y: u32,
+    table: &[u8],
+    k: usize,
+    i: usize,
+) -> LabelAnswer
+    ensures { λ r. ⌜ r ≡ labelAnswerOf (now (table .entry)) (labelled (now (chart .entry)) x y k i) ⌝ }
+{
+    let l = find_label(chart, x, y, table, k, i);
+    let answer = l.answer;
+    let place = l.place;
+    LabelAnswer {
+        answer: answer,
+        x: place.x,
+        y: place.y,
+        size: place.size,
+        width: place.width,
+    }
+}
+
+// The text of that label, a part of the chart or of the table; refused, the empty one at the chart's start.
+pub fn label_part<'a>(
+    chart: &'a [u8],
+    x: u32,
+    y: u32,
+    table: &'a [u8],
+    k: usize,
+    i: usize,
+) -> &'a [u8]
+    ensures { λ r. ⌜ IsAt (labelPartOf (now (table .entry)) (labelled (now (chart .entry)) x y k i)) (chart .entry) (table .entry) r ⌝ }
+{
+    let l = find_label(chart, x, y, table, k, i);
+    let answer = l.answer;
+    let place = l.place;
+    match answer {
+        Answer::Ready => {
+            if place.fixed {
+                let s = stand_in(place.number);
+                return part_of(chart, table, true, s.at, s.end);
+            }
+            let at = place.at as usize;
+            return part_of(chart, table, false, at, at + place.len as usize);
+        }
+        Answer::Refused(_, _) => {
+            return part_of(chart, table, false, 0, 0);
         }
     }
 }

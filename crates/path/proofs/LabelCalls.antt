@@ -1,0 +1,115 @@
+-- The label calls: the table is judged after 1 to 14, and a label's part lies within the chart or the table.
+-- Assumes nothing.
+use Prim.Native.Nat.{ℕ, _+_, _-_, _*_, _≤_, _<_}
+use native.Mathlib.Omega.{arith}
+use mathlib.Core.Path.{_≡_, refl, sym, ap, _∙_}
+use mathlib.Core.Bool.{Bool, true, false, cond, _&&_}
+use mathlib.Core.List.{List}
+use lib.Dec.{ltb, leb}
+use lib.ListN.{length}
+use borrow.Author.Tests.{le-leb, ltb-true, ltb-false}
+use Rattle.laws.specs.Bytes.{same}
+use Rattle.laws.proofs.Lists.{same-true}
+use Rattle.chart.specs.declared.Answer.{Answer}
+use Rattle.chart.specs.declared.Answer.the-variants.{Ready, Refused}
+use Rattle.grid.specs.declared.LabelPlace.{LabelPlace}
+use Rattle.grid.specs.declared.LabelOutcome.{LabelOutcome}
+use Rattle.grid.specs.Labels.{noLabel}
+use Rattle.grid.specs.Labelled.{Labelled, ready, refusal, labelled, labelOutcomeOf}
+use Rattle.grid.proofs.LabelPlaces.{Lies, labelled-lies}
+use Rattle.path.specs.declared.label.Span.{Span}
+use Rattle.path.specs.declared.LabelAnswer.{LabelAnswer}
+use Rattle.path.specs.Label.{Place, chart, table, partAt, standIn, standInsTo, standIns, standInSpan, tabled, answerIn, placeIn, labelPartOf}
+use Rattle.path.proofs.Labels.{stand-ins-long, stand-in-low, stand-in-high}
+
+-- ---- the table
+pub tabled-found : (t : List ℕ) (l : Labelled) (r : LabelOutcome) → r ≡ labelOutcomeOf l → r .answer ≡ Ready → same t standIns ≡ true →
+    record { answer = Ready; place = r .place } ≡ labelOutcomeOf (tabled t l)
+tabled-found t (ready p) r e a b = rw (b, ap (λ (u : LabelOutcome). u .place) e)
+tabled-found t (refusal n m) r e a b =
+    let f : r .answer ≡ Refused n m = ap (λ (u : LabelOutcome). u .answer) e in
+    let z : _≡_ {A = ℕ} 0 1 = cc in absurd (omega arith)
+
+pub tabled-none : (t : List ℕ) (l : Labelled) (r : LabelOutcome) (p : LabelPlace) → r ≡ labelOutcomeOf l → r .answer ≡ Ready → same t standIns ≡ false → p ≡ noLabel →
+    record { answer = Refused 15 0; place = p } ≡ labelOutcomeOf (tabled t l)
+tabled-none t (ready q) r p e a b h = rw (b, h)
+tabled-none t (refusal n m) r p e a b h =
+    let f : r .answer ≡ Refused n m = ap (λ (u : LabelOutcome). u .answer) e in
+    let z : _≡_ {A = ℕ} 0 1 = cc in absurd (omega arith)
+
+pub tabled-refused : (t : List ℕ) (l : Labelled) (r : LabelOutcome) (p : LabelPlace) (n m : ℕ) → r ≡ labelOutcomeOf l → r .answer ≡ Refused n m → p ≡ noLabel →
+    record { answer = Refused n m; place = p } ≡ labelOutcomeOf (tabled t l)
+tabled-refused t (ready q) r p n m e a h =
+    let f : r .answer ≡ Ready = ap (λ (u : LabelOutcome). u .answer) e in
+    let z : _≡_ {A = ℕ} 0 1 = cc in absurd (omega arith)
+tabled-refused t (refusal i j) r p n m e a h =
+    let f : Refused n m ≡ Refused i j = sym a ∙ ap (λ (u : LabelOutcome). u .answer) e in
+    rw (f, h)
+
+-- ---- the answer
+pub answer-is : (l : Labelled) (r : LabelOutcome) → r ≡ labelOutcomeOf l →
+    record { answer = r .answer; x = r .place .x; y = r .place .y; size = r .place .size; width = r .place .width } ≡ answerIn l
+answer-is (ready p) r e = rw e
+answer-is (refusal n m) r e = rw e
+
+-- ---- the part
+ready-by : (p : LabelPlace) (b : Bool) (r : LabelOutcome) → r ≡ labelOutcomeOf (cond b (ready p) (refusal 15 0)) → r .answer ≡ Ready → (ready p ≡ ready (r .place)) × (b ≡ true)
+ready-by p true r e a = (ap (λ (u : LabelOutcome). ready (u .place)) (sym e), refl)
+ready-by p false r e a =
+    let f : r .answer ≡ Refused 15 0 = ap (λ (u : LabelOutcome). u .answer) e in
+    let z : _≡_ {A = ℕ} 0 1 = cc in absurd (omega arith)
+
+tabled-ready : (t : List ℕ) (l : Labelled) (r : LabelOutcome) → r ≡ labelOutcomeOf (tabled t l) → r .answer ≡ Ready → (l ≡ ready (r .place)) × (same t standIns ≡ true)
+tabled-ready t (ready p) r e a = ready-by p (same t standIns) r e a
+tabled-ready t (refusal n m) r e a =
+    let f : r .answer ≡ Refused n m = ap (λ (u : LabelOutcome). u .answer) e in
+    let z : _≡_ {A = ℕ} 0 1 = cc in absurd (omega arith)
+
+-- the part where `#q` stands lies within the 86 bytes
+span-within : (q : ℕ) → q < 32 → (b : Bool) → ltb q 10 ≡ b → length (standInsTo q) + length (standIn q) ≤ 86
+span-within q h true e = let l = stand-in-low q h (ltb-true q 10 e) in omega (arith, l .0, l .1, ltb-true q 10 e)
+span-within q h false e = let l = stand-in-high q h (ltb-false q 10 e) in omega (arith, l .0, l .1, ltb-false q 10 e)
+
+module _ (s t : List ℕ) (x y k i : ℕ) (r : LabelOutcome) (e : r ≡ labelOutcomeOf (tabled t (labelled s x y k i))) (a : r .answer ≡ Ready) where
+  found : (labelled s x y k i ≡ ready (r .place)) × (same t standIns ≡ true)
+  found = tabled-ready t (labelled s x y k i) r e a
+
+  lies : Lies s (r .place)
+  lies = labelled-lies s x y k i (r .place) (found .0)
+
+  part-is : labelPartOf t (labelled s x y k i) ≡ placeIn (ready (r .place))
+  part-is = rw (found .0, found .1)
+
+  pub number-small : r .place .fixed ≡ true → r .place .number < 32
+  number-small = lies .below
+
+  pub fixed-part : r .place .fixed ≡ true → (p : Span) → p ≡ standInSpan (r .place .number) → (m : ℕ) → partAt true (p .at) (p .end) m (length t) ≡ labelPartOf t (labelled s x y k i)
+  fixed-part f p h m =
+      let q : ℕ = r .place .number in
+      let long : length t ≡ 86 = ap length (same-true t standIns (found .1)) ∙ stand-ins-long in
+      let w : length (standInsTo q) + length (standIn q) ≤ 86 = span-within q (lies .below f) (ltb q 10) refl in
+      let at : p .at ≡ length (standInsTo q) = ap (λ (z : Span). z .at) h in
+      let end : p .end ≡ length (standInsTo q) + length (standIn q) = ap (λ (z : Span). z .end) h in
+      let u : leb (p .at) (p .end) ≡ true = le-leb (p .at) (p .end) (omega (arith, at, end)) in
+      let v : leb (p .end) (length t) ≡ true = le-leb (p .end) (length t) (omega (arith, end, w, long)) in
+      let one : partAt true (p .at) (p .end) m (length t) ≡ table (p .at) (p .end) = rw (u, v) in
+      let two : table (p .at) (p .end) ≡ table (standInSpan q .at) (standInSpan q .end) = ap (λ (z : Span). table (z .at) (z .end)) h in
+      let three : placeIn (ready (r .place)) ≡ table (standInSpan q .at) (standInSpan q .end) = rw f in
+      one ∙ two ∙ sym (part-is ∙ three)
+
+  pub given-part : r .place .fixed ≡ false → (n : ℕ) → partAt false (r .place .at) (r .place .at + r .place .len) (length s) n ≡ labelPartOf t (labelled s x y k i)
+  given-part f n =
+      
+      
+      let u : leb (r .place .at) (r .place .at + r .place .len) ≡ true = le-leb (r .place .at) (r .place .at + r .place .len) (omega arith) in
+      let v : leb (r .place .at + r .place .len) (length s) ≡ true = le-leb (r .place .at + r .place .len) (length s) (lies .inside f) in
+      let one : partAt false (r .place .at) (r .place .at + r .place .len) (length s) n ≡ chart (r .place .at) (r .place .at + r .place .len) = rw (u, v) in
+      let three : placeIn (ready (r .place)) ≡ chart (r .place .at) (r .place .at + r .place .len) = rw f in
+      one ∙ sym (part-is ∙ three)
+
+-- refused: the empty part at the chart's start
+pub refused-part : (v : Labelled) (r : LabelOutcome) (a b m n : ℕ) → r ≡ labelOutcomeOf v → r .answer ≡ Refused a b → partAt false 0 0 m n ≡ placeIn v
+refused-part (ready p) r a b m n e f =
+    let g : r .answer ≡ Ready = ap (λ (u : LabelOutcome). u .answer) e in
+    let z : _≡_ {A = ℕ} 0 1 = cc in absurd (omega arith)
+refused-part (refusal i j) r a b m n e f = rw (le-leb 0 m (omega arith))

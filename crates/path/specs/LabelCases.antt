@@ -1,0 +1,122 @@
+-- Labels through the whole definition, from the chart's bytes: what both calls answer. One table, one computed test. The numbers are the Rust's.
+-- Assumes nothing.
+use Prim.Native.Nat.{ℕ, _-_}
+use Prim.Native.String.{String}
+use mathlib.Core.Path.{_≡_, refl}
+use mathlib.Core.Bool.{Bool, true, _&&_}
+use mathlib.Core.List.{List, [], _∷_}
+use lib.ListN.{take, drop}
+use Rattle.laws.specs.Bytes.{ascii, hex, allOf, same}
+use Rattle.laws.specs.Each.{each}
+use Rattle.chart.specs.declared.Answer.{Answer}
+use Rattle.chart.specs.declared.Answer.the-variants.{Ready, Refused}
+use Rattle.chart.specs.Chart.{chart as chartOf}
+use Rattle.graph.specs.Shape.{shapeOf}
+use Rattle.graph.specs.Completion.{complete}
+use Rattle.graph.specs.Cutting.{reached, cutting}
+use Rattle.graph.specs.Graphed.{graphed}
+use Rattle.order.specs.Against.{all}
+use Rattle.order.specs.Weights.{round, first, weights}
+use Rattle.order.specs.Chains.{triples, chains, order, columns as firstColumns}
+use Rattle.grid.specs.Heights.{heights}
+use Rattle.grid.specs.Columns.{firstMoves, foldFrom, average, columns}
+use Rattle.grid.specs.RenderNode.{drawn}
+use Rattle.grid.specs.RenderGrid.{sheetOf, sheet}
+use Rattle.grid.specs.Sheeted.{sheetOfDag, sheeted}
+use Rattle.grid.specs.Labelled.{Labelled, labelled}
+use Rattle.path.specs.declared.LabelAnswer.{LabelAnswer}
+use Rattle.path.specs.Number.{digits}
+use Rattle.path.specs.Label.{Place, chart, table, standInsTo, standIns, labelAnswerOf, labelPartOf}
+
+-- 0 0 or the refusal's two numbers, then place, size and width
+abbrev numbersBy : Answer → List ℕ → List ℕ
+numbersBy Ready ns = 0 ∷ 0 ∷ ns
+numbersBy (Refused a b) ns = a ∷ b ∷ ns
+
+abbrev numbers : LabelAnswer → List ℕ
+numbers r = numbersBy (r .answer) (r .x ∷ r .y ∷ r .size ∷ r .width ∷ [])
+
+-- 0 for the chart or 1 for the table, then from where to where
+abbrev spot : Place → List ℕ
+spot (chart a e) = 0 ∷ a ∷ e ∷ []
+spot (table a e) = 1 ∷ a ∷ e ∷ []
+
+-- what stands there
+abbrev textAt : List ℕ → List ℕ → Place → List ℕ
+textAt s t (chart a e) = take (e - a) (drop a s)
+textAt s t (table a e) = take (e - a) (drop a t)
+
+data Case : Type 0 where
+  -- the chart in hexadecimal, the origin, the table, the box and the label; the answer's numbers, the part and its text
+  is : String → ℕ → ℕ → String → ℕ → ℕ → List ℕ → List ℕ → String → Case
+
+abbrev agree : List ℕ → List ℕ → Labelled → List ℕ → List ℕ → String → Bool
+agree s t l ns ps w = same (numbers (labelAnswerOf t l)) ns && (same (spot (labelPartOf t l)) ps && same (textAt s t (labelPartOf t l)) (ascii w))
+
+holds : Case → Bool
+holds (is s x y t k i ns ps w) = agree (hex s) (ascii t) (labelled (hex s) x y k i) ns ps w
+
+-- the stand-in table; with one byte changed; one byte shorter
+abbrev fixed : String
+fixed = "#0#1#2#3#4#5#6#7#8#9#10#11#12#13#14#15#16#17#18#19#20#21#22#23#24#25#26#27#28#29#30#31"
+
+abbrev wrong : String
+wrong = "#0#1#2#3#4#5#6#7#8#9#10#11#12#13#14#15#16#17#18#19#20#21#22#23#24#25#26#27#28#29#30#32"
+
+abbrev short : String
+short = "#0#1#2#3#4#5#6#7#8#9#10#11#12#13#14#15#16#17#18#19#20#21#22#23#24#25#26#27#28#29#30#3"
+
+-- 0: src[0 "x"] lin["k"] snk[0 "ab"], which is cut; 0: src[0, 0 "abc"] lin["", "hi"]; eleven nodes, the last with a sink to itself
+abbrev three : String
+three = "01010400010101000178016b00026162"
+
+abbrev lines : String
+lines = "010104000202000000000361626300026869"
+
+abbrev eleven : String
+eleven = "010b18001b001e002100240027002a002d003000330036000000000000000000000000000000000000000000000000000000000000000000010a00"
+
+-- the numbers of a refusal, and its part
+abbrev refused : ℕ → ℕ → List ℕ
+refused a b = a ∷ b ∷ 0 ∷ 0 ∷ 0 ∷ 0 ∷ []
+
+abbrev start : List ℕ
+start = 0 ∷ 0 ∷ 0 ∷ []
+
+cases : List Case
+cases =
+    -- a source's text, a line, a sink's text
+    is three 0 0 fixed 0 0 (0 ∷ 0 ∷ 256 ∷ 3024 ∷ 232 ∷ 128 ∷ []) (0 ∷ 9 ∷ 10 ∷ []) "x"
+    ∷ is three 0 0 fixed 0 1 (0 ∷ 0 ∷ 320 ∷ 3520 ∷ 464 ∷ 256 ∷ []) (0 ∷ 11 ∷ 12 ∷ []) "k"
+    ∷ is three 0 0 fixed 0 2 (0 ∷ 0 ∷ 320 ∷ 3920 ∷ 232 ∷ 256 ∷ []) (0 ∷ 14 ∷ 16 ∷ []) "ab"
+    -- the inserted boxes have a fixed text
+    ∷ is three 0 0 fixed 1 0 (0 ∷ 0 ∷ 320 ∷ 6464 ∷ 464 ∷ 512 ∷ []) (1 ∷ 0 ∷ 2 ∷ []) "#0"
+    ∷ is three 0 0 fixed 2 0 (0 ∷ 0 ∷ 320 ∷ 576 ∷ 464 ∷ 512 ∷ []) (1 ∷ 0 ∷ 2 ∷ []) "#0"
+    ∷ is eleven 0 0 fixed 11 0 (0 ∷ 0 ∷ 320 ∷ 5696 ∷ 464 ∷ 768 ∷ []) (1 ∷ 20 ∷ 23 ∷ []) "#10"
+    -- an empty source is no label, an empty line is one
+    ∷ is lines 0 0 fixed 0 0 (0 ∷ 0 ∷ 512 ∷ 3024 ∷ 232 ∷ 384 ∷ []) (0 ∷ 11 ∷ 14 ∷ []) "abc"
+    ∷ is lines 0 0 fixed 0 1 (0 ∷ 0 ∷ 320 ∷ 3520 ∷ 464 ∷ 0 ∷ []) (0 ∷ 15 ∷ 15 ∷ []) ""
+    ∷ is lines 0 0 fixed 0 2 (0 ∷ 0 ∷ 320 ∷ 4160 ∷ 464 ∷ 512 ∷ []) (0 ∷ 16 ∷ 18 ∷ []) "hi"
+    ∷ is lines 0 0 fixed 0 3 (refused 15 0) start ""
+    -- 15: a label, a box that isn't there; a table that isn't the fixed texts, wherever the label's text is
+    ∷ is three 0 0 fixed 0 3 (refused 15 0) start ""
+    ∷ is three 0 0 fixed 1 1 (refused 15 0) start ""
+    ∷ is three 0 0 fixed 3 0 (refused 15 0) start ""
+    ∷ is three 0 0 fixed 99 0 (refused 15 0) start ""
+    ∷ is three 0 0 wrong 0 0 (refused 15 0) start ""
+    ∷ is three 0 0 wrong 1 0 (refused 15 0) start ""
+    ∷ is three 0 0 short 0 0 (refused 15 0) start ""
+    ∷ is three 0 0 "" 0 0 (refused 15 0) start ""
+    -- the origin is not added; 14 comes before 15
+    ∷ is three 8387456 8381824 fixed 0 2 (0 ∷ 0 ∷ 320 ∷ 3920 ∷ 232 ∷ 256 ∷ []) (0 ∷ 14 ∷ 16 ∷ []) "ab"
+    ∷ is three 8387457 0 fixed 0 2 (refused 14 0) start ""
+    ∷ is three 0 8381825 wrong 99 0 (refused 14 0) start ""
+    -- a refused chart's numbers, before 15
+    ∷ is "010206000b0001000005000000010600" 0 0 fixed 0 0 (refused 12 5) start ""
+    ∷ is "010206000b0001000005000000010600" 0 0 wrong 99 0 (refused 12 5) start ""
+    ∷ is "" 0 0 fixed 0 0 (refused 1 0) start ""
+    ∷ []
+
+all-hold : allOf holds cases ≡ true
+unfolding holds cases standIns standInsTo digits chartOf complete reached cutting graphed shapeOf each all round first weights triples chains order firstColumns heights firstMoves foldFrom average columns drawn sheetOf sheet sheetOfDag sheeted labelled
+all-hold = refl
