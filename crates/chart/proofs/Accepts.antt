@@ -23,7 +23,7 @@ use Rattle.chart.specs.Steps.{nodesOf, outsideOf}
 use Rattle.laws.specs.Lists.{All, capped}
 use Rattle.laws.proofs.Lists.{all-map, all-flat, capped-room, capped-full}
 use Rattle.chart.specs.Accepted.{Fitting, Aimed, Formed, Accepted}
-use Rattle.chart.specs.Read.{readingOf, readOf, Joins, Sound, IsRead, answered, judgedOf}
+use Rattle.chart.specs.Read.{closedOf, readingOf, readOf, Joins, Sound, IsRead, answered, judgedOf}
 use Rattle.chart.proofs.Readers.{number-some}
 use Rattle.chart.proofs.Gives.{Gives, EndFits, Shaped, Bodies, bodies-give}
 use Rattle.chart.proofs.Held.{LowNode, board-held, ends-count, lines-count, table-back, lines-back, sourcesFrom, linesFrom, sinksFrom, tables-held}
@@ -244,12 +244,19 @@ module _ (s : List ℕ) (n : ℕ) (r : Nodes) where
   read-refused (got qs at) e h = absurd (h (ap (λ (x : Nodes). x .refused) e))
   read-refused (refused w) e h = rw (ap (λ (x : Nodes). x .refused) e)
 
-  pub read-trailing : (g : Got Board) → r ≡ nodesOf (emptyBoard n) 0 g → r .refused ≡ 0 → r .end < length s → readOf (refusal 10 0) ≡ readOf (judged s n g)
+  read-trailing : (g : Got Board) → r ≡ nodesOf (emptyBoard n) 0 g → r .refused ≡ 0 → r .end < length s → readOf (refusal 10 0) ≡ readOf (judged s n g)
   read-trailing (got qs at) e h l = let i : at < length s = omega (arith, ap (λ (x : Nodes). x .end) e) in rw (lt-ltb at (length s) i)
   read-trailing (refused w) e h l = absurd (number-some w (sym (ap (λ (x : Nodes). x .refused) e) ∙ h))
 
-  pub read-judged : n ≤ 32 → (g : Got Board) → Gives g (Bodies s n (2 + 2 * n)) → r ≡ nodesOf (emptyBoard n) 0 g → r .refused ≡ 0 → length s ≤ r .end → judgedOf (r .board) ≡ readOf (judged s n g)
+  read-judged : n ≤ 32 → (g : Got Board) → Gives g (Bodies s n (2 + 2 * n)) → r ≡ nodesOf (emptyBoard n) 0 g → r .refused ≡ 0 → length s ≤ r .end → judgedOf (r .board) ≡ readOf (judged s n g)
   unfolding tablesOf
   read-judged small (got qs at) f e h l =
       ap (λ (x : Nodes). judgedOf (x .board)) e ∙ tables-judged s n small qs at f (omega (arith, ap (λ (x : Nodes). x .end) e))
   read-judged small (refused w) f e h l = absurd (number-some w (sym (ap (λ (x : Nodes). x .refused) e) ∙ h))
+
+  pub read-closed : n ≤ 32 → (g : Got Board) → Gives g (Bodies s n (2 + 2 * n)) → r ≡ nodesOf (emptyBoard n) 0 g → r .refused ≡ 0 → closedOf r (length s) ≡ readOf (judged s n g)
+  read-closed small g f e h = go (ltb (r .end) (length s)) refl
+    where
+      go : (a : Bool) → ltb (r .end) (length s) ≡ a → cond a (readOf (refusal 10 0)) (judgedOf (r .board)) ≡ readOf (judged s n g)
+      go true z = read-trailing g e h (ltb-true (r .end) (length s) z)
+      go false z = read-judged small g f e h (ltb-false (r .end) (length s) z)

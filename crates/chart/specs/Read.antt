@@ -5,7 +5,7 @@ use mathlib.Core.Path.{_≡_}
 use mathlib.Core.Option.{Option, none, some}
 use mathlib.Core.Bool.{cond}
 use mathlib.Core.List.{List}
-use lib.Dec.{leb}
+use lib.Dec.{leb, ltb}
 use lib.ListN.{length}
 use Rattle.chart.specs.declared.Item.{Item}
 use Rattle.chart.specs.declared.Line.{Line}
@@ -13,6 +13,7 @@ use Rattle.chart.specs.declared.Board.{Board as Tables}
 use Rattle.chart.specs.declared.Answer.{Answer}
 use Rattle.chart.specs.declared.Answer.the-variants.{Ready, Refused}
 use Rattle.chart.specs.declared.Outcome.{Outcome}
+use Rattle.chart.specs.declared.reader.Nodes.{Nodes}
 use Rattle.chart.specs.Chart.{Board, Reading, ready, refusal, targetsOf, firstOutside, chart}
 use Rattle.chart.specs.Tables.{emptyBoard, itemsOf, linesOf, boardOf, tablesOf}
 use Rattle.laws.specs.Lists.{All}
@@ -76,3 +77,7 @@ judgedOf b =
     (answered b (firstOutside (targetsOf (boardOf b)) (b .n)))
     (readOf (refusal 11 0)))
     (readOf (refusal 11 0))
+
+-- 10, and then 11 and 12, of the nodes of a chart of k bytes
+abbrev pub closedOf : Nodes → ℕ → Outcome
+closedOf r k = cond (ltb (r .end) k) (readOf (refusal 10 0)) (judgedOf (r .board))

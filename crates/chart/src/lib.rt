@@ -2,8 +2,9 @@
 // a node's list is its records in table order.
 ghost use mathlib.Core.Path.{_≡_};
 ghost use Rattle.chart.specs.Chart.{refusal};
-ghost use Rattle.chart.specs.Read.{readOf, judgedOf, IsRead};
+ghost use Rattle.chart.specs.Read.{readOf, judgedOf, closedOf, IsRead};
 use judge::Outside;
+use reader::Nodes;
 
 mod judge;
 mod reader;
@@ -88,6 +89,18 @@ fn judged(board: Board) -> Outcome
     }
 }
 
+// Refusals 10 to 12, of the nodes of a chart of len bytes. (A function of its own, for the memory: with one more test before it `judged` has a frame on top of
+// its caller's, since the compiler takes its call to be rare.)
+fn closed(nodes: Nodes, len: usize) -> Outcome
+    ensures { λ r. ⌜ r ≡ closedOf nodes len ⌝ }
+{
+    if nodes.end < len {
+        return refused(10, 0);
+    }
+    let board = nodes.board;
+    judged(board)
+}
+
 // A chart: its board, or the first refusal of 1 to 12.
 pub fn read(chart: &[u8]) -> Outcome
     ensures { λ r. ⌜ IsRead (now (chart .entry)) r ⌝ }
@@ -109,9 +122,5 @@ pub fn read(chart: &[u8]) -> Outcome
     if nodes.refused != 0 {
         return refused(nodes.refused, 0);
     }
-    if nodes.end < chart.len() {
-        return refused(10, 0);
-    }
-    let board = nodes.board;
-    judged(board)
+    closed(nodes, chart.len())
 }

@@ -28,13 +28,12 @@ use Rattle.graph.specs.declared.Item.{Item}
 use Rattle.graph.specs.declared.Table.{Table}
 use Rattle.graph.specs.declared.Tables.{Tables}
 use Rattle.graph.specs.declared.Outcome.{Outcome}
-use Rattle.graph.specs.declared.cutting.Explore.{Explore}
 use Rattle.graph.specs.Graph.{given, number, Graph, unmarked, givenNode, givenGraph}
 use Rattle.graph.specs.Completion.{complete}
 use Rattle.graph.specs.Cutting.{Walk, cutting}
 use Rattle.graph.specs.Graphed.{dagOf, ready, refusal, boxed, graphed}
 use Rattle.graph.specs.Tables.{owned, itemsOf, unmarkedItem, nodeOf, linesAt, linesOf, graphFrom, graphOf, Below, Aimed, Completed}
-use Rattle.graph.specs.Explore.{walkOf, CutAll}
+use Rattle.graph.specs.Explore.{Explore, walkOf, CutAll}
 use Rattle.graph.specs.Outcome.{textsFrom, namesOf, sourcesFrom, sinksFrom, tableOf, tablesOf, noNodes, IsAnswer, inOrder, orderedOf, Held, Begun}
 use Rattle.graph.proofs.Cuts.{length-graph}
 use Rattle.graph.proofs.LineLaws.{board-lined}

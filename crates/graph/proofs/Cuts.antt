@@ -21,7 +21,7 @@ use Rattle.graph.specs.declared.Table.{Table}
 use Rattle.graph.specs.declared.Tables.{Tables}
 use Rattle.graph.specs.Graph.{Edge, Node, Graph, Line, number, noText, none?, nodeAt, withSources, withSinks}
 use Rattle.graph.specs.Cutting.{cutGraph, turned, pointed, secondNode}
-use Rattle.graph.specs.Tables.{owned, markOf, edgeOf, nodeOf, graphFrom, noItem, Below, Aimed, Roomy, Sunk, CutTo, Linked, Texted, itemsOf, linesAt, linesOf, graphOf, pointItem, turnItem}
+use Rattle.graph.specs.Tables.{sourceOf, sinkOf, owned, markOf, edgeOf, nodeOf, graphFrom, noItem, Below, Aimed, Roomy, Sunk, CutTo, Linked, Texted, itemsOf, linesAt, linesOf, graphOf, pointItem, turnItem}
 use Rattle.graph.proofs.Lists.{node-graph}
 use Rattle.graph.proofs.Gains.{owned-join, owned-new, owned-old}
 
@@ -398,20 +398,17 @@ module _ (t r : Tables) (b : Roomy t) (c s k : ℕ) (f : Sunk (itemsOf (t .sinks
 
 -- the same as the code makes r: a and y are the tables turned and pointed, x and z those with a record more
 pub cut-to : (t : Tables) (b : Roomy t) (c s k : ℕ) (f : Sunk (itemsOf (t .sinks)) c s k) (hc : c < t .n) (room : t .n + 2 ≤ 48) (long : length (t .names) ≡ 48)
-    (q : Item) → getD (itemsOf (t .sinks)) k noItem ≡ q → (a x y z : Table) →
-    (itemsOf a ≡ map (turnItem (q .to) c (t .n + 1)) (itemsOf (t .sources))) × (a .count ≡ t .sources .count) →
-    (itemsOf x ≡ itemsOf a ++ one (newSource (t .n) c s)) × (x .count ≡ a .count + 1) →
-    (itemsOf y ≡ set (itemsOf (t .sinks)) k (pointItem (t .n) (getD (itemsOf (t .sinks)) k noItem))) × (y .count ≡ t .sinks .count) →
-    (itemsOf z ≡ itemsOf y ++ one (record { owner = t .n + 1; to = q .to; mark = 0; at = 0; len = 0 })) × (z .count ≡ y .count + 1) →
+    (q : Item) → getD (itemsOf (t .sinks)) k noItem ≡ q → (x z : Table) →
+    (itemsOf x ≡ map (turnItem (q .to) c (t .n + 1)) (itemsOf (t .sources)) ++ one (sourceOf c s (t .n))) × (x .count ≡ t .sources .count + 1) →
+    (itemsOf z ≡ set (itemsOf (t .sinks)) k (pointItem (t .n) (getD (itemsOf (t .sinks)) k noItem)) ++ one (sinkOf (q .to) (t .n + 1))) × (z .count ≡ t .sinks .count + 1) →
     CutTo t c s k (record { n = t .n + 2; cuts = t .cuts + 1; names = set (set (t .names) (t .n) (q .to)) (t .n + 1) (q .to); lines = t .lines; sources = x; sinks = z })
-cut-to t b c s k f hc room long q e a x y z ha hx hy hz =
+cut-to t b c s k f hc room long q e x z hx hz =
     let r : Tables = record { n = t .n + 2; cuts = t .cuts + 1; names = set (set (t .names) (t .n) (q .to)) (t .n + 1) (q .to); lines = t .lines; sources = x; sinks = z } in
     let em : r .names ≡ set (set (t .names) (t .n) (getD (itemsOf (t .sinks)) k noItem .to)) (t .n + 1) (getD (itemsOf (t .sinks)) k noItem .to) = rw e in
-    let ea : itemsOf a ≡ map (turnItem (getD (itemsOf (t .sinks)) k noItem .to) c (suc (t .n))) (itemsOf (t .sources)) = rw (e, ← add-one (t .n)) (ha .0) in
     let ex : itemsOf x ≡ map (turnItem (getD (itemsOf (t .sinks)) k noItem .to) c (suc (t .n))) (itemsOf (t .sources)) ++ one (newSource (t .n) c s) =
-    hx .0 ∙ ap (λ (l : List Item). l ++ one (newSource (t .n) c s)) ea in
+    rw (e, ← add-one (t .n)) (hx .0) in
     let ey : itemsOf z ≡ set (itemsOf (t .sinks)) k (pointItem (t .n) (getD (itemsOf (t .sinks)) k noItem)) ++ one (newSink (t .n) (getD (itemsOf (t .sinks)) k noItem .to)) =
-    hz .0 ∙ ap (λ (l : List Item). l ++ one (record { owner = t .n + 1; to = q .to; mark = 0; at = 0; len = 0 })) (hy .0) ∙ rw (e, add-one (t .n)) in
+    hz .0 ∙ rw (e, add-one (t .n)) in
     record {
       sound = cut-sound t r b c s k f hc room long refl refl em ex ey (omega arith) (omega arith);
       more = refl;

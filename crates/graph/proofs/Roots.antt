@@ -15,12 +15,11 @@ use Rattle.laws.specs.Each.{each}
 use Rattle.laws.proofs.Each.{next}
 use Rattle.laws.proofs.Lists.{take-replicate}
 use Rattle.graph.specs.declared.Tables.{Tables}
-use Rattle.graph.specs.declared.cutting.Explore.{Explore}
 use Rattle.graph.specs.declared.cutting.Look.{Look}
 use Rattle.graph.specs.Graph.{Node, Graph, none?}
 use Rattle.graph.specs.Cutting.{Walk, markFrom, markRoot, reached, seenAt, exploreFrom, start, beginning, cutting}
 use Rattle.graph.specs.Tables.{owned, itemsOf, linesOf, graphOf, Roomy}
-use Rattle.graph.specs.Explore.{walkOf, Ready, Walked}
+use Rattle.graph.specs.Explore.{Explore, walkOf, Ready, Walked}
 use Rattle.graph.proofs.Lists.{node-graph, unseens-le}
 use Rattle.graph.proofs.Cuts.{length-graph}
 use Rattle.graph.proofs.Resumes.{Grown, grown-refl, grown-trans, from-grown}

@@ -7,7 +7,6 @@ use mathlib.Core.List.{List, [], _∷_}
 use lib.ListN.{length, take}
 use Rattle.graph.specs.declared.Tables.{Tables}
 use Rattle.graph.specs.declared.cutting.Look.{Look}
-use Rattle.graph.specs.declared.cutting.Explore.{Explore}
 use Rattle.graph.specs.declared.cutting.Found.{Found}
 use Rattle.graph.specs.declared.cutting.Found.the-variants.{At, Nothing}
 use Rattle.graph.specs.declared.Item.{Item}
@@ -16,6 +15,14 @@ use Rattle.graph.specs.Graph.{degree}
 use Rattle.graph.specs.Cutting.{Walk, exploreFrom, exploreSinks, seeing, explored, cutting}
 use Rattle.graph.specs.Tables.{graphOf, owned, Sunk, Roomy}
 use Rattle.graph.specs.Path.{unseens}
+
+-- the walk's state: the number of nodes that were given, the tables so far, how each node stands, and the path, the first depth frames
+pub record Explore : Type 0 where
+  pub given : ℕ
+  pub tables : Tables
+  pub seen : List ℕ
+  pub frames : List Look
+  pub depth : ℕ
 
 abbrev pub noLook : Look
 noLook = record { node = 0; sink = 0 }
@@ -68,11 +75,6 @@ pub record Kept (x y : Explore) : Type 0 where
   pub same : answer y ≡ answer x
   pub less : effort y < effort x
 
--- a step, or a cut that would make more than 48 nodes
-abbrev pub Advanced : Explore → Bool → Explore → Type 0
-Advanced x true y = Kept x y
-Advanced x false y = 48 < length (answer x .graph)
-
 pub record Walked (x : Explore) (p : ℕ) (y : Explore) : Type 0 where
   pub ready : Ready y
   pub done : y .depth ≡ 0
@@ -80,12 +82,16 @@ pub record Walked (x : Explore) (p : ℕ) (y : Explore) : Type 0 where
   pub lines : y .tables .lines ≡ x .tables .lines
   pub walk : walkOf y ≡ exploreFrom (x .given) (walkOf x) p
 
--- the whole walk from p, or a cut in it that would make more than 48 nodes
-abbrev pub Explored : Explore → ℕ → Bool → Explore → Type 0
-Explored x p true y = Walked x p y
-Explored x p false y = 48 < length (exploreFrom (x .given) (walkOf x) p .graph)
-
 -- all cycles that no root reaches are cut, or a cut would make more than 48 nodes
 abbrev pub CutAll : Tables → Bool → Explore → Type 0
 CutAll t true y = Roomy (y .tables) × (y .tables .lines ≡ t .lines) × (walkOf y ≡ cutting (graphOf t))
 CutAll t false y = 48 < length (cutting (graphOf t) .graph)
+
+-- the state once the walks are over: the tables, and how each node stands
+abbrev pub over : Tables → List ℕ → Explore
+over r sn = record { given = 0; tables = r; seen = sn; frames = []; depth = 0 }
+
+-- r is t cut, however each node stands then
+pub record CutTables (t : Tables) (ok : Bool) (r : Tables) : Type 0 where
+  pub standing : List ℕ
+  pub cut : CutAll t ok (over r standing)

@@ -1,29 +1,22 @@
 // Cutting: a depth-first walk with an explicit path that cuts each sink to a node on the path.
 ghost use mathlib.Core.Path.{_≡_};
-ghost use mathlib.Core.List.{map};
+ghost use mathlib.Core.List.{map, _++_};
 ghost use Prim.Native.Nat.{_+_, _<_, _≤_};
 ghost use lib.ListN.{getD, set};
-ghost use Rattle.graph.specs.Tables.{itemsOf, noItem, pointItem, turnItem, Roomy, Sunk, CutTo};
-ghost use Rattle.graph.specs.Explore.{IsFound, Ready, Advanced, Explored, CutAll};
+ghost use Rattle.laws.specs.Lists.{one};
+ghost use Rattle.graph.specs.Tables.{itemsOf, noItem, pointItem, turnItem, sourceOf, sinkOf, Roomy};
+ghost use Rattle.graph.specs.Explore.{IsFound, CutTables};
 use crate::Item;
 use crate::Table;
 use crate::Tables;
 use crate::reach::mark_roots;
+use crate::records::no_nodes;
 use crate::records::push;
 
 // A node on the path, and the number of its sink to look at next.
 pub struct Look {
     pub node: u8,
     pub sink: u8,
-}
-
-// The walk's state: the number of nodes that were given, the tables so far, how each node stands, and the path, the first depth frames.
-pub struct Explore {
-    pub given: usize,
-    pub tables: Tables,
-    pub seen: [u8; 48],
-    pub frames: [Look; 48],
-    pub depth: usize,
 }
 
 // The place of a record, if there is one.
@@ -104,25 +97,16 @@ fn turn(t: Table, q: u8, c: u8, to: u8) -> Table
     }
 }
 
-// Sink s of c, record k, is cut.
-fn cut_sink(t: Tables, c: u8, s: u8, k: usize) -> Tables
-    requires { ⌜ Roomy t ⌝ }
-    requires { ⌜ t .n + 2 ≤ 48 ⌝ }
-    requires { ⌜ t .cuts < 48 ⌝ }
-    requires { ⌜ c < t .n ⌝ }
-    requires { ⌜ Sunk (itemsOf (t .sinks)) c s k ⌝ }
-    ensures { λ r. ⌜ CutTo t c s k r ⌝ }
+// The sources where sink s of c, which leads to q, is cut: those of q with target c lead to the second new node, and the first, a, has its source.
+fn cut_sources(t: Table, q: u8, c: u8, s: u8, a: u8) -> Table
+    requires { ⌜ t .count < 88 ⌝ }
+    requires { ⌜ a + 2 ≤ 48 ⌝ }
+    requires { ⌜ s < 88 ⌝ }
+    ensures { λ r. ⌜ (itemsOf r ≡ map (turnItem q c (a + 1)) (itemsOf t) ++ one (sourceOf c s a)) × (r .count ≡ t .count + 1) ⌝ }
 {
-    let n = t.n;
-    let a = n as u8;
-    let b = a + 1;
-    let sinks = t.sinks;
-    let sources = t.sources;
-    let e = sinks.items[k];
-    let q = e.to;
-    let turned_sources = turn(sources, q, c, b);
-    let more_sources = push(
-        turned_sources,
+    let next = turn(t, q, c, a + 1);
+    push(
+        next,
         Item {
             at: 0,
             owner: a,
@@ -130,152 +114,121 @@ fn cut_sink(t: Tables, c: u8, s: u8, k: usize) -> Tables
             mark: s + 1,
             len: 0,
         },
-    );
-    let pointed_sinks = point(sinks, k, a);
-    let more_sinks = push(
-        pointed_sinks,
+    )
+}
+
+// The sinks where record k, which leads to q, is cut: it leads to the first new node, a, and the second has its sink to q.
+fn cut_sinks(t: Table, k: usize, q: u8, a: u8) -> Table
+    requires { ⌜ t .count < 88 ⌝ }
+    requires { ⌜ k < t .count ⌝ }
+    requires { ⌜ a + 2 ≤ 48 ⌝ }
+    ensures { λ r. ⌜ (itemsOf r ≡ set (itemsOf t) k (pointItem a (getD (itemsOf t) k noItem)) ++ one (sinkOf q (a + 1))) × (r .count ≡ t .count + 1) ⌝ }
+{
+    let next = point(t, k, a);
+    push(
+        next,
         Item {
             at: 0,
-            owner: b,
+            owner: a + 1,
             to: q,
             mark: 0,
             len: 0,
         },
-    );
-    let mut next = t;
-    let last = n + 1;
-    next.names[n] = q;
-    next.names[last] = q;
-    next.n = n + 2;
-    next.cuts = t.cuts + 1;
-    next.sources = more_sources;
-    next.sinks = more_sinks;
-    next
+    )
 }
 
-// The walk's next state, unless a cut would make more than 48 nodes.
+// The tables once cut, unless a cut would make more than 48 nodes.
 pub struct Went {
     pub ok: bool,
-    pub state: Explore,
+    pub tables: Tables,
 }
 
-// One step: the last node of the path looks at its next sink, or leaves the path.
-fn advance(x: Explore) -> Went
-    requires { ⌜ Ready x ⌝ }
-    requires { ⌜ 0 < x .depth ⌝ }
-    ensures { λ r. ⌜ Advanced x (r .ok) (r .state) ⌝ }
-{
-    let t = x.tables;
-    let sinks = t.sinks;
-    let top = x.depth - 1;
-    let f = x.frames[top];
-    let mut next = x;
-    let found = find_sink(sinks, f.node, f.sink);
-    let Found::At(k) = found else {
-        let c = f.node as usize;
-        next.seen[c] = 3;
-        next.depth = top;
-        return Went {
-            ok: true,
-            state: next,
-        };
-    };
-    let e = sinks.items[k];
-    let q = e.to as usize;
-    let v = next.seen[q];
-    next.frames[top] = Look {
-        node: f.node,
-        sink: f.sink + 1,
-    };
-    if v == 0 {
-        next.seen[q] = 2;
-        let d = next.depth;
-        next.frames[d] = Look {
-            node: e.to,
-            sink: 0,
-        };
-        next.depth = d + 1;
-        return Went {
-            ok: true,
-            state: next,
-        };
-    }
-    if v != 2 {
-        return Went {
-            ok: true,
-            state: next,
-        };
-    }
-    let n = t.n;
-    if 46 < n {
-        return Went {
-            ok: false,
-            state: next,
-        };
-    }
-    let tables = cut_sink(t, f.node, f.sink, k);
-    let last = n + 1;
-    next.tables = tables;
-    next.seen[n] = 3;
-    next.seen[last] = 3;
-    Went {
-        ok: true,
-        state: next,
-    }
-}
-
-// The walk from p, which is unseen.
-pub fn explore_from(x: Explore, p: u8) -> Went
-    requires { ⌜ Ready x ⌝ }
-    requires { ⌜ p < x .given ⌝ }
-    requires { ⌜ getD (x .seen) p 0 ≡ 0 ⌝ }
-    requires { ⌜ x .depth ≡ 0 ⌝ }
-    ensures { λ r. ⌜ Explored x p (r .ok) (r .state) ⌝ }
-{
-    let at = p as usize;
-    let mut s = x;
-    s.seen[at] = 2;
-    s.frames[0] = Look { node: p, sink: 0 };
-    s.depth = 1;
-    while 0 < s.depth {
-        let went = advance(s);
-        if !went.ok {
-            return went;
-        }
-        let next = went.state;
-        s = next;
-    }
-    Went { ok: true, state: s }
-}
-
-// Every cycle that no root reaches is cut, unless that makes more than 48 nodes.
+// Every cycle that no root reaches is cut, unless that makes more than 48 nodes. The tables stand in variables of their own, for the memory.
+// The path is the first depth frames; one step: its last node looks at its next sink, or leaves the path.
 pub fn cut_cycles(t: Tables) -> Went
     requires { ⌜ Roomy t ⌝ }
     requires { ⌜ t .cuts ≡ 0 ⌝ }
-    ensures { λ r. ⌜ CutAll t (r .ok) (r .state) ⌝ }
+    ensures { λ r. ⌜ CutTables t (r .ok) (r .tables) ⌝ }
 {
-    let n = t.n;
-    let seen = mark_roots(t);
-    let frames = [Look { node: 0, sink: 0 }; 48];
-    let mut s = Explore {
-        given: n,
-        tables: t,
-        seen: seen,
-        frames: frames,
-        depth: 0,
-    };
+    let given = t.n;
+    let mut seen = mark_roots(t);
+    let mut n = given;
+    let mut cuts = t.cuts;
+    let mut names = t.names;
+    let mut sources = t.sources;
+    let mut sinks = t.sinks;
+    let mut frames = [Look { node: 0, sink: 0 }; 48];
     let mut p: usize = 0;
-    while p < n {
+    while p < given {
         let at = p;
         p += 1;
-        if s.seen[at] == 0 {
-            let went = explore_from(s, at as u8);
-            if !went.ok {
-                return went;
+        if seen[at] == 0 {
+            seen[at] = 2;
+            frames[0] = Look {
+                node: at as u8,
+                sink: 0,
+            };
+            let mut depth: usize = 1;
+            while 0 < depth {
+                let top = depth - 1;
+                let f = frames[top];
+                let found = find_sink(sinks, f.node, f.sink);
+                let Found::At(k) = found else {
+                    let c = f.node as usize;
+                    seen[c] = 3;
+                    depth = top;
+                    continue;
+                };
+                let e = sinks.items[k];
+                let q = e.to as usize;
+                let v = seen[q];
+                frames[top] = Look {
+                    node: f.node,
+                    sink: f.sink + 1,
+                };
+                if v == 0 {
+                    seen[q] = 2;
+                    frames[depth] = Look {
+                        node: e.to,
+                        sink: 0,
+                    };
+                    depth += 1;
+                    continue;
+                }
+                if v != 2 {
+                    continue;
+                }
+                if 46 < n {
+                    let none = no_nodes();
+                    return Went {
+                        ok: false,
+                        tables: none,
+                    };
+                }
+                let a = n as u8;
+                sources = cut_sources(sources, e.to, f.node, f.sink, a);
+                sinks = cut_sinks(sinks, k, e.to, a);
+                let last = n + 1;
+                names[n] = e.to;
+                names[last] = e.to;
+                seen[n] = 3;
+                seen[last] = 3;
+                n += 2;
+                cuts += 1;
             }
-            let next = went.state;
-            s = next;
         }
     }
-    Went { ok: true, state: s }
+    let lines = t.lines;
+    let tables = Tables {
+        n: n,
+        cuts: cuts,
+        names: names,
+        lines: lines,
+        sources: sources,
+        sinks: sinks,
+    };
+    Went {
+        ok: true,
+        tables: tables,
+    }
 }

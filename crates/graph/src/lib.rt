@@ -72,8 +72,7 @@ fn drawn(board: Board) -> Outcome
     if !went.ok {
         return refused(13, 0);
     }
-    let state = went.state;
-    let tables = state.tables;
+    let tables = went.tables;
     let done = records::finished(tables);
     Outcome {
         answer: Answer::Ready,

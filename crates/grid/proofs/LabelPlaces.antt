@@ -1,17 +1,17 @@
 -- A label from the chart's bytes: what the code finds is the definition's, and its text lies within the chart or is one of the 32 fixed texts.
 -- Assumes nothing.
-use Prim.Native.Nat.{ℕ, zero, suc, _+_, _-_, _*_, _/_, _≤_, _<_}
+use Prim.Native.Nat.{ℕ, zero, suc, _+_, _-_, _/_, _≤_, _<_}
 use native.Mathlib.Omega.{arith}
-use mathlib.Core.Path.{_≡_, refl, ap, sym, subst, _∙_}
+use mathlib.Core.Path.{_≡_, refl, ap, sym, _∙_}
 use mathlib.Core.Bool.{Bool, true, false, cond, _&&_}
 use mathlib.Core.List.{List, [], _∷_, _++_, map}
-use lib.Dec.{ltb, leb}
+use lib.Dec.{ltb}
 use lib.ListN.{length, getD, drop, replicate, length-drop, length-map, List·getD-eq-default}
 use lib.Seq.{getD-drop}
 use borrow.Author.Tests.{ltb-true, ltb-false, leb-true}
 use native.Mathlib.Nat.{zero-add}
-use Rattle.laws.specs.Lists.{All, one, tabulate, padded}
-use Rattle.laws.proofs.Lists.{all-map, all-join, all-made, length-padded, getD-padded, getD-tabulate, length-tabulate}
+use Rattle.laws.specs.Lists.{All, tabulate, padded}
+use Rattle.laws.proofs.Lists.{all-join, all-made, length-padded, getD-padded, getD-tabulate, length-tabulate}
 use Rattle.chart.specs.declared.Answer.{Answer}
 use Rattle.chart.specs.declared.Answer.the-variants.{Ready, Refused}
 use Rattle.chart.specs.Chart.{Part, End, Board}
@@ -24,7 +24,7 @@ use Rattle.graph.specs.Graph.{Line, given, number, Edge, Node, Graph, noText, b
 use Rattle.graph.specs.Graphed.{Dag, Graphed, ready as cut, refusal as uncut, graphed}
 use Rattle.graph.specs.Shape.{shapeOf}
 use Rattle.graph.specs.Tables.{itemsOf, linesOf, graphOf}
-use Rattle.graph.specs.Outcome.{dagIn, graphedBy, IsGraph}
+use Rattle.graph.specs.Outcome.{dagIn, IsGraph}
 use Rattle.graph.specs.Laws.{textsAt, Begins, Texts, Named, Laws}
 use Rattle.graph.proofs.AimLaws.{all-in}
 use Rattle.graph.proofs.Gathers.{graph-laws}
@@ -33,20 +33,19 @@ use Rattle.order.specs.Chains.{columns as firstColumns}
 use Rattle.grid.specs.declared.BoxRecord.{BoxRecord}
 use Rattle.grid.specs.declared.SheetRecord.{SheetRecord}
 use Rattle.grid.specs.declared.LabelPlace.{LabelPlace}
-use Rattle.grid.specs.declared.LabelOutcome.{LabelOutcome}
 use Rattle.grid.specs.declared.Outcome.{Outcome}
 use Rattle.grid.specs.Lists.{total}
-use Rattle.grid.specs.Record.{noBox, noSheet}
+use Rattle.grid.specs.Record.{noBox}
 use Rattle.grid.specs.Heights.{heights}
 use Rattle.grid.specs.Columns.{columns}
-use Rattle.grid.specs.RenderNode.{Text, drawn, textsOf, endTexts, textIf, lineTexts, textLength, endWidth, lineLength, sourceGap, sinkGap, firstX, inputY, outputY, centerY, innerWidth, centerWidth}
-use Rattle.grid.specs.RenderGrid.{Box, Sheet, textMoved, boxOf, sheetOf, sheet}
+use Rattle.grid.specs.RenderNode.{Text, drawn, endTexts, textIf, lineTexts, textLength, endWidth, sourceGap, sinkGap, firstX, inputY, outputY, centerY, innerWidth, centerWidth}
+use Rattle.grid.specs.RenderGrid.{Sheet, textMoved, boxOf, sheetOf, sheet}
 use Rattle.grid.specs.Curves.{noOutputs, boxRecord, recordOf}
 use Rattle.grid.specs.Rendered.{Seated}
-use Rattle.grid.specs.Sheeted.{Sheeted, ready, refusal, within, fitted, drawn as drawnAt, sheetOfDag, sheeted, outcomeOf}
-use Rattle.grid.specs.BoxTheorem.{BoxTheorem, IsSheet, box}
-use Rattle.grid.specs.Labels.{noLabel, placeOf, labelAt, labelOf, labelFrom, Sited}
-use Rattle.grid.specs.Labelled.{Labelled, ready as labels, refusal as unlabelled, labelIn, labelOn, labelled, labelOutcomeOf}
+use Rattle.grid.specs.Sheeted.{Sheeted, ready, refusal, within, drawn as drawnAt, sheetOfDag, sheeted, outcomeOf}
+use Rattle.grid.specs.BoxTheorem.{BoxTheorem, IsSheet}
+use Rattle.grid.specs.Labels.{placeOf, labelAt, labelOf, labelFrom, Sited}
+use Rattle.grid.specs.Labelled.{ready as labels, refusal as unlabelled, labelIn, labelOn, labelled, labelOutcomeOf}
 use Rattle.grid.proofs.LabelLaws.{label-sheet}
 use Rattle.grid.proofs.TextLaws.{Blank, blank}
 
@@ -330,9 +329,11 @@ module _ (s : List ℕ) where
       in-sheet : (sh : Sheet) → Lies s (labelOf sh k i) → (b : Bool) → cond b (labels (labelOf sh k i)) (unlabelled 15 0) ≡ labels p → Lies s p
       in-sheet sh l true e = let f : labelOf sh k i ≡ p = cc in rw f at l
       in-sheet sh l false e = let z : _≡_ {A = ℕ} 0 1 = cc in absurd (omega arith)
+
       fitting : (sh : Sheet) → Lies s (labelOf sh k i) → (b : Bool) → labelOn k i (cond b (ready sh) (refusal 14 0)) ≡ labels p → Lies s p
       fitting sh l true e = in-sheet sh l (labelOf sh k i .found) e
       fitting sh l false e = let z : _≡_ {A = ℕ} 0 1 = cc in absurd (omega arith)
+
       go : (v : Graphed) → graphed s ≡ v → labelOn k i (drawnAt x y v) ≡ labels p → Lies s p
       go (cut d) c f = fitting (sheetOfDag d) (sheet-lies d (graph-laws s d c) k i) (within x (sheetOfDag d .width) && within y (sheetOfDag d .height)) f
       go (uncut a b) c f = let z : _≡_ {A = ℕ} 0 1 = cc in absurd (omega arith)

@@ -1,16 +1,15 @@
 -- The label calls: the table is judged after 1 to 14, and a label's part lies within the chart or the table.
 -- Assumes nothing.
-use Prim.Native.Nat.{ℕ, _+_, _-_, _*_, _≤_, _<_}
+use Prim.Native.Nat.{ℕ, _+_, _≤_, _<_}
 use native.Mathlib.Omega.{arith}
 use mathlib.Core.Path.{_≡_, refl, sym, ap, _∙_}
-use mathlib.Core.Bool.{Bool, true, false, cond, _&&_}
+use mathlib.Core.Bool.{Bool, true, false, cond}
 use mathlib.Core.List.{List}
 use lib.Dec.{ltb, leb}
 use lib.ListN.{length}
 use borrow.Author.Tests.{le-leb, ltb-true, ltb-false}
 use Rattle.laws.specs.Bytes.{same}
 use Rattle.laws.proofs.Lists.{same-true}
-use Rattle.chart.specs.declared.Answer.{Answer}
 use Rattle.chart.specs.declared.Answer.the-variants.{Ready, Refused}
 use Rattle.grid.specs.declared.LabelPlace.{LabelPlace}
 use Rattle.grid.specs.declared.LabelOutcome.{LabelOutcome}
@@ -18,8 +17,7 @@ use Rattle.grid.specs.Labels.{noLabel}
 use Rattle.grid.specs.Labelled.{Labelled, ready, refusal, labelled, labelOutcomeOf}
 use Rattle.grid.proofs.LabelPlaces.{Lies, labelled-lies}
 use Rattle.path.specs.declared.label.Span.{Span}
-use Rattle.path.specs.declared.LabelAnswer.{LabelAnswer}
-use Rattle.path.specs.Label.{Place, chart, table, partAt, standIn, standInsTo, standIns, standInSpan, tabled, answerIn, placeIn, labelPartOf}
+use Rattle.path.specs.Label.{chart, table, partAt, standIn, standInsTo, standIns, standInSpan, tabled, answerIn, placeIn, labelPartOf}
 use Rattle.path.proofs.Labels.{stand-ins-long, stand-in-low, stand-in-high}
 
 -- ---- the table
@@ -99,8 +97,6 @@ module _ (s t : List ℕ) (x y k i : ℕ) (r : LabelOutcome) (e : r ≡ labelOut
 
   pub given-part : r .place .fixed ≡ false → (n : ℕ) → partAt false (r .place .at) (r .place .at + r .place .len) (length s) n ≡ labelPartOf t (labelled s x y k i)
   given-part f n =
-      
-      
       let u : leb (r .place .at) (r .place .at + r .place .len) ≡ true = le-leb (r .place .at) (r .place .at + r .place .len) (omega arith) in
       let v : leb (r .place .at + r .place .len) (length s) ≡ true = le-leb (r .place .at + r .place .len) (length s) (lies .inside f) in
       let one : partAt false (r .place .at) (r .place .at + r .place .len) (length s) n ≡ chart (r .place .at) (r .place .at + r .place .len) = rw (u, v) in

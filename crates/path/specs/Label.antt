@@ -9,7 +9,6 @@ use lib.ListN.{length, take, drop}
 use denote.Ref.{RefT}
 use Rattle.laws.specs.Bytes.{ascii, same}
 use Rattle.chart.specs.declared.Answer.the-variants.{Ready, Refused}
-use Rattle.grid.specs.declared.LabelPlace.{LabelPlace}
 use Rattle.grid.specs.Labelled.{Labelled, ready, refusal}
 use Rattle.path.specs.declared.label.Span.{Span}
 use Rattle.path.specs.declared.LabelAnswer.{LabelAnswer}

@@ -194,14 +194,7 @@ fn find_label(chart: &[u8], x: u32, y: u32, table: &[u8], k: usize, i: usize) ->
 }
 
 // Where label i of box k of the chart's sheet stands, its size and its width: 1 to 15.
-pub fn label_place(
-    chart: &[u8],
-    x: u32,
-    y: u32,
-    table: &[u8],
-    k: usize,
-    i: usize,
-) -> LabelAnswer
+pub fn label_place(chart: &[u8], x: u32, y: u32, table: &[u8], k: usize, i: usize) -> LabelAnswer
     ensures { λ r. ⌜ r ≡ labelAnswerOf (now (table .entry)) (labelled (now (chart .entry)) x y k i) ⌝ }
 {
     let l = find_label(chart, x, y, table, k, i);

@@ -18,8 +18,7 @@ enum-told c = search needs
 label-of-requires : tie.Need-label-of-requires
 label-of-requires c κs =
     let h = c .before .before .before .before in
-    let a = h .before .before .before .args in
-    (
+    let a = h .before .before .before .args in (
       sitting (a .chart .now) (h .graph .result) (h .graph .ensures),
       sited (a .chart .now) (a .x) (a .y) (h .before .sheet .result) (h .before .sheet .ensures) (h .graph .result) (h .graph .ensures) (c .enum-told .given .1) (a .k),
     )

@@ -6,25 +6,16 @@ use Rattle.path.proofs.LabelCalls.{tabled-found, tabled-none, tabled-re
 use borrow.Author.Needs.{needs}
 use Rattle.path.proofs.find_label.Statement.{statement}
 use Rattle.path.proofs.find_label.Tie as tie
-use Rattle.path.proofs.find_label.Reads as reads
-use Rattle.path.proofs.find_label.Lts as lts
-use Rattle.grid.proofs.label_place.Reads as label-place-reads
-use Rattle.path.proofs.label.is_stand_ins.Reads as is-stand-ins-reads
-use Rattle.path.proofs.label.no_place.Reads as no-place-reads
 
--- src/lib.rt:171:9
 label-place-requires : tie.Need-label-place-requires
 label-place-requires c κs = search needs
 
--- src/lib.rt:176:16
 enum-told : tie.Need-enum-told
 enum-told c = search needs
 
--- src/lib.rt:176:16
 is-stand-ins-requires : tie.Need-is-stand-ins-requires
 is-stand-ins-requires c κs = search needs
 
--- src/lib.rt:177:17
 returns : tie.Need-returns
 returns c =
     let h = c .before .before .before .before .before in
@@ -32,11 +23,9 @@ returns c =
     tabled-found (a .table .now) (labelled (a .chart .now) (a .x) (a .y) (a .k) (a .i)) (h .label-place .result) (h .label-place .ensures) (c .before .before .enum-told .given .1)
     (sym (c .before .is-stand-ins .ensures) ∙ c .if1 .taken)
 
--- src/lib.rt:184:24
 no-place-requires : tie.Need-no-place-requires
 no-place-requires c κs = search needs
 
--- src/lib.rt:182:13
 returns-2 : tie.Need-returns-2
 returns-2 c =
     let h = c .before .before .before .before .before .before in
@@ -44,15 +33,12 @@ returns-2 c =
     tabled-none (a .table .now) (labelled (a .chart .now) (a .x) (a .y) (a .k) (a .i)) (h .label-place .result) (c .no-place .result) (h .label-place .ensures) (c .before .before .before .enum-told .given .1)
     (sym (c .before .before .is-stand-ins .ensures) ∙ c .before .if1 .left) (c .no-place .ensures)
 
--- src/lib.rt:187:25
 enum-known-answer : tie.Need-enum-known-answer
 enum-known-answer c = search needs
 
--- src/lib.rt:190:24
 no-place-requires-2 : tie.Need-no-place-requires-2
 no-place-requires-2 c κs = search needs
 
--- src/lib.rt:188:13
 returns-3 : tie.Need-returns-3
 returns-3 c =
     let h = c .before .before .before .before .before in

@@ -6,15 +6,10 @@ use Rattle.path.proofs.LabelCalls.{answer-is}
 use borrow.Author.Needs.{needs}
 use Rattle.path.proofs.label_place.Statement.{statement}
 use Rattle.path.proofs.label_place.Tie as tie
-use Rattle.path.proofs.label_place.Reads as reads
-use Rattle.path.proofs.label_place.Lts as lts
-use Rattle.path.proofs.find_label.Reads as find-label-reads
 
--- src/lib.rt:207:9
 find-label-requires : tie.Need-find-label-requires
 find-label-requires c κs = search needs
 
--- src/lib.rt:197:1
 returns : tie.Need-returns
 returns c =
     let h = c .before in
