@@ -1,42 +1,26 @@
 -- The arrays of ends hold the shape of the graph.
 -- Assumes nothing.
-use Prim.Native.Nat.{ℕ, zero, suc, _+_, _≤_, _<_}
+use Prim.Native.Nat.{ℕ, zero, suc, _≤_, _<_}
 use native.Mathlib.Omega.{arith}
-use native.Mathlib.Numerals.{add-one}
 use native.Mathlib.Nat.{le-of-suc-le-suc, not-suc-le-zero}
 use mathlib.Core.Path.{_≡_, refl, ap, sym, _∙_}
 use mathlib.Core.Bool.{Bool, true, false}
-use mathlib.Core.List.{List, [], _∷_, _++_, map, map-append}
+use mathlib.Core.List.{List, [], _∷_, map}
 use lib.Dec.{eqb}
-use lib.ListN.{length, getD, set, take, List·getD-map}
-use lib.Seq.{take-suc, take-suc-set, take-all, length-take-le, getD-take}
-use Rattle.laws.specs.Lists.{All, tabulate, keep}
+use lib.ListN.{length, getD, take, List·getD-map}
+use lib.Seq.{length-take-le, getD-take}
+use Rattle.laws.specs.Lists.{All, keep}
 use Rattle.laws.proofs.Lists.{tabulate-same, map-tabulate, length-padded}
 use Rattle.graph.specs.declared.Item.{Item}
 use Rattle.graph.specs.declared.Table.{Table}
 use Rattle.graph.specs.declared.Tables.{Tables}
 use Rattle.graph.specs.declared.Outcome.{Outcome}
-use Rattle.graph.specs.Graph.{Edge, Line}
+use Rattle.graph.specs.Graph.{Edge}
 use Rattle.graph.specs.Graphed.{Graphed, ready, refusal, graphed}
 use Rattle.graph.specs.Outcome.{sourcesFrom, sinksFrom, outcomeOf, IsGraph}
 use Rattle.graph.specs.Shape.{targets, incidentsOf, shapeOf}
 use Rattle.graph.specs.Ends.{endsIn, targetsOf, endsOf, incidentsIn, shapeFrom, Linked}
 use Rattle.graph.specs.Tables.{noItem, edgeOf, owned, itemsOf, nodeOf, linesOf, graphFrom, graphOf, Below, Aimed}
-
--- ---- a loop that stores a field of each record
-module _ {A : Type 0} (f : Item → A) (xs : List Item) (l : List A) where
-  pub stored-more : (k : ℕ) → k < length l → k < length xs → take k l ≡ map f (take k xs) → take (k + 1) (set l k (f (getD xs k noItem))) ≡ map f (take (k + 1) xs)
-  stored-more k h i e =
-      rw (add-one k)
-      (take-suc-set l k (f (getD xs k noItem)) h
-      ∙ rw e (sym (map-append f (take k xs) (getD xs k noItem ∷ [])))
-      ∙ ap (map f) (sym (take-suc xs k noItem i)))
-
-  pub stored-all : (k : ℕ) → length l ≡ k → length xs ≡ k → take k l ≡ map f (take k xs) → l ≡ map f xs
-  stored-all k h i e =
-      let a : length l ≤ k = omega arith in
-      let b : length xs ≤ k = omega arith in
-      sym (take-all k l a) ∙ e ∙ ap (map f) (take-all k xs b)
 
 -- ---- the shape
 map-keep : {A B : Type 0} (f : A → B) (b : Bool) (x : A) (l : List A) → map f (keep b x l) ≡ keep b (f x) (map f l)

@@ -6,10 +6,10 @@ use native.Mathlib.Numerals.{add-one}
 use native.Mathlib.Nat.{le-of-suc-le-suc, not-suc-le-zero}
 use mathlib.Core.Path.{_≡_, refl, ap, sym, _∙_}
 use mathlib.Core.Bool.{Bool, true, false, _&&_, _||_}
-use mathlib.Core.List.{List, [], _∷_, _++_}
+use mathlib.Core.List.{List, [], _∷_, _++_, map, map-append}
 use lib.Dec.{eqb, eqb·zero-suc, eqb·suc-suc}
-use lib.ListN.{length, getD, set, drop, drop-of-length-le}
-use lib.Seq.{drop-cons, getD-take, length-take-le}
+use lib.ListN.{length, getD, set, take, drop, drop-of-length-le}
+use lib.Seq.{drop-cons, getD-take, length-take-le, take-suc, take-suc-set, take-all}
 use borrow.Author.Tests.{eq-eqb, ne-eqb}
 use Rattle.laws.specs.Lists.{keep, tally}
 use Rattle.laws.proofs.Lists.{getD-tabulate}
@@ -124,3 +124,18 @@ module _ (t : Table) (long : length (t .items) ≡ 88) (room : t .count ≤ 88) 
 
   pub leads-end : (q p k : ℕ) → t .count ≤ k → leadsTo (owned q (drop k (itemsOf t))) p ≡ false
   leads-end q p k h = rw (owned-end q k (itemsOf t) (omega (arith, table-size)))
+
+-- ---- a loop that stores what f makes of each record
+module _ {A B : Type 0} (f : A → B) (xs : List A) (l : List B) where
+  pub stored-more : (d : A) (k : ℕ) → k < length l → k < length xs → take k l ≡ map f (take k xs) → take (k + 1) (set l k (f (getD xs k d))) ≡ map f (take (k + 1) xs)
+  stored-more d k h i e =
+      rw (add-one k)
+      (take-suc-set l k (f (getD xs k d)) h
+      ∙ rw e (sym (map-append f (take k xs) (getD xs k d ∷ [])))
+      ∙ ap (map f) (sym (take-suc xs k d i)))
+
+  pub stored-all : (k : ℕ) → length l ≡ k → length xs ≡ k → take k l ≡ map f (take k xs) → l ≡ map f xs
+  stored-all k h i e =
+      let a : length l ≤ k = omega arith in
+      let b : length xs ≤ k = omega arith in
+      sym (take-all k l a) ∙ e ∙ ap (map f) (take-all k xs b)

@@ -9,7 +9,7 @@ use mathlib.Core.Option.{Option, none, some}
 use mathlib.Core.Bool.{Bool, true, false, cond}
 use mathlib.Core.List.{List, [], _++_}
 use lib.ListN.{length, getD, set, take, drop, length-set, length-append}
-use lib.Seq.{take-append-le, set-getD, getD-set-same, take-set-le, drop-set-lt}
+use lib.Seq.{take-append-le, set-getD, getD-set-same, take-set-le, drop-set-lt, drop-cons}
 use Rattle.laws.specs.Lists.{one}
 use Rattle.laws.proofs.Lists.{tabulate-set}
 use Rattle.graph.specs.declared.Item.{Item}
@@ -154,7 +154,7 @@ module _ (t : Tables) (b : Linked t) (p j k : ℕ) (f : Sunk (itemsOf (t .source
         fits = λ g f′. (f′, refl);
       }
 
--- Before record k, with j sources of p gone through: what is left to do gives the whole.
+-- Before record k, with j sources of p gone through: the records from k on are as given, and what is left to do gives the whole.
 pub record Right (g : ℕ) (t : Tables) (p : ℕ) (s : Tables) (j k : ℕ) : Type 0 where
   pub linked : Linked s
   pub same : SameBut t s
@@ -162,30 +162,45 @@ pub record Right (g : ℕ) (t : Tables) (p : ℕ) (s : Tables) (j k : ℕ) : Typ
   pub within : k ≤ t .sources .count
   pub fit : Fit g s
   pub given : take g (itemsOf (s .sinks)) ≡ take g (itemsOf (t .sinks))
+  pub size : length (itemsOf (s .sources)) ≡ length (itemsOf (t .sources))
+  pub ahead : drop k (itemsOf (s .sources)) ≡ drop k (itemsOf (t .sources))
   pub number : length (owned p (take k (itemsOf (s .sources)))) ≡ j
   pub less : j ≤ k
-  pub rest : completeSources (graphOf s) p j (owned p (drop k (itemsOf (s .sources)))) ≡ completeSources (graphOf t) p 0 (owned p (itemsOf (t .sources)))
+  pub rest : completeSources (graphOf s) p j (owned p (drop k (itemsOf (t .sources)))) ≡ completeSources (graphOf t) p 0 (owned p (itemsOf (t .sources)))
 
-module _ (g : ℕ) (t : Tables) (p : ℕ) (s : Tables) (long : length (s .sources .items) ≡ 88) (j k : ℕ) (l : Right g t p s j k) where
+module _ (g : ℕ) (t : Tables) (long : length (t .sources .items) ≡ 88) (fits : t .sources .count ≤ 88) (p : ℕ) (s : Tables) (j k : ℕ) (l : Right g t p s j k) where
+  abbrev ts : List Item
+  ts = itemsOf (t .sources)
+
   abbrev ss : List Item
   ss = itemsOf (s .sources)
 
-  long-is : length ss ≡ s .sources .count
-  long-is = table-size (s .sources) long (l .linked .source-room)
+  long-is : length ts ≡ t .sources .count
+  long-is = table-size (t .sources) long fits
 
-  pub right-end : t .sources .count ≤ k → graphOf s ≡ completeSources (graphOf t) p 0 (owned p (itemsOf (t .sources)))
-  right-end h = rw (owned-end p k ss (omega (arith, long-is, l .count))) at (l .rest)
+  pub right-end : t .sources .count ≤ k → graphOf s ≡ completeSources (graphOf t) p 0 (owned p ts)
+  right-end h = rw (owned-end p k ts (omega (arith, long-is))) at (l .rest)
 
   module _ (h : k < t .sources .count) where
+    in-given : k < length ts
+    in-given = omega (arith, long-is)
+
     in-list : k < length ss
-    in-list = omega (arith, long-is, l .count)
+    in-list = omega (arith, in-given, l .size)
 
-    here : getD ss k noItem ≡ getD (s .sources .items) k noItem
-    here = table-at (s .sources) long (l .linked .source-room) k (omega (arith, l .count))
+    here : getD ts k noItem ≡ getD (t .sources .items) k noItem
+    here = table-at (t .sources) long fits k h
 
-    pub right-other : (getD (s .sources .items) k noItem .owner ≡ p → ⊥) → Right g t p s j (k + 1)
+    -- record k is as given, and so are those after it
+    still : getD ss k noItem ≡ getD ts k noItem
+    still = cc (l .ahead, drop-cons ss k noItem in-list, drop-cons ts k noItem in-given)
+
+    further : drop (suc k) ss ≡ drop (suc k) ts
+    further = cc (l .ahead, drop-cons ss k noItem in-list, drop-cons ts k noItem in-given)
+
+    pub right-other : (getD (t .sources .items) k noItem .owner ≡ p → ⊥) → Right g t p s j (k + 1)
     right-other o =
-        let o′ : getD ss k noItem .owner ≡ p → ⊥ = λ z. o (rw here at z) in
+        let o′ : getD ts k noItem .owner ≡ p → ⊥ = λ z. o (rw here at z) in
         record {
           linked = l .linked;
           same = l .same;
@@ -193,14 +208,19 @@ module _ (g : ℕ) (t : Tables) (p : ℕ) (s : Tables) (long : length (s .source
           within = omega arith;
           fit = l .fit;
           given = l .given;
-          number = counted-other ss p k in-list o′ ∙ l .number;
+          size = l .size;
+          ahead = rw add-one further;
+          number = counted-other ss p k in-list (λ z. o′ (rw still at z)) ∙ l .number;
           less = omega (arith, l .less);
-          rest = rw (add-one k, ← owned-other p k ss in-list o′) (l .rest);
+          rest = rw (add-one k, ← owned-other p k ts in-given o′) (l .rest);
         }
 
-    module _ (o : getD (s .sources .items) k noItem .owner ≡ p) where
+    module _ (o : getD (t .sources .items) k noItem .owner ≡ p) where
+      given-own : getD ts k noItem .owner ≡ p
+      given-own = rw here o
+
       own : getD ss k noItem .owner ≡ p
-      own = rw here o
+      own = rw still given-own
 
       pub right-sunk : Sunk ss p j k
       right-sunk = record { inside = in-list; owner = own; number = l .number }
@@ -212,7 +232,6 @@ module _ (g : ℕ) (t : Tables) (p : ℕ) (s : Tables) (long : length (s .source
           let front : take k rs ≡ take k ss = rw (h′ .marks) (take-set-le k ss k y (omega arith)) in
           let at : getD rs k noItem ≡ y = rw (h′ .marks) (getD-set-same ss k y noItem in-list) in
           let size : length rs ≡ length ss = rw (h′ .marks) (length-set ss k y) in
-          let left : drop (suc k) (itemsOf (r .sources)) ≡ drop (suc k) ss = rw (h′ .marks) (drop-set-lt (suc k) ss k y (omega arith)) in
           record {
             linked = h′ .linked;
             same = same-trans t s r (l .same) (h′ .same);
@@ -220,9 +239,11 @@ module _ (g : ℕ) (t : Tables) (p : ℕ) (s : Tables) (long : length (s .source
             within = omega arith;
             fit = h′ .fits g (l .fit) .0;
             given = h′ .fits g (l .fit) .1 ∙ l .given;
+            size = size ∙ l .size;
+            ahead = rw (add-one k, h′ .marks) (drop-set-lt (suc k) ss k y (omega arith) ∙ further);
             number =
                 counted-own rs p k (omega (arith, in-list)) (ap (λ (x : Item). x .owner) at ∙ own)
                 ∙ ap (λ (xs : List Item). length (owned p xs) + 1) front ∙ ap (λ (m : ℕ). m + 1) (l .number);
             less = omega (arith, l .less);
-            rest = rw (add-one j, add-one k, left, h′ .graph) (rw (owned-own p k ss in-list own) at (l .rest));
+            rest = rw (add-one j, add-one k, h′ .graph, still) (rw (owned-own p k ts in-given given-own) at (l .rest));
           }

@@ -105,7 +105,7 @@ module _ (t : Tables) (b : Linked t) (full : length (t .sinks .items) ≡ 88) wh
     unfolding looks
     pop h =
         record {
-          room = omega arith;
+          good = record { all = all; most = most; room = omega arith };
           same = ap (λ (k : ℕ). resume k t v (stackOf noFrame fs d)) (omega arith) ∙ sym (resume-end (t .n - suc d) v x (stackOf noFrame fs d) h);
           less = omega arith;
         }
@@ -123,7 +123,7 @@ module _ (t : Tables) (b : Linked t) (full : length (t .sinks .items) ≡ 88) wh
       unfolding looks on
       pass same =
           record {
-            room = g;
+            good = record { all = all; most = simp length-set most; room = g };
             same = rw stack-on (sym (same (t .n - suc d)));
             less = omega (arith, ap looks stack-on, b .sink-room);
           }
@@ -145,7 +145,7 @@ module _ (t : Tables) (b : Linked t) (full : length (t .sinks .items) ≡ 88) wh
           stack-last noFrame (set fs d moved) (suc d) entered (simp length-set (omega (arith, b .nodes))) ∙ ap (λ (r : List Frame). entered ∷ r) stack-on in
           let i : take (t .n) (set sn q 1) ≡ set v q 1 = take-set-lt (t .n) sn q 1 l in
           record {
-            room = rw i (omega arith);
+            good = record { all = simp length-set all; most = simp length-set most; room = rw i (omega arith) };
             same =
                 rw (i, add-one (suc d), k)
                 (sym (ap (λ (m : ℕ). resume m t v (x ∷ stackOf noFrame fs d)) (omega arith) ∙ resume-push v x (stackOf noFrame fs d) h (t .n - suc (suc d)) l o u));
@@ -153,7 +153,7 @@ module _ (t : Tables) (b : Linked t) (full : length (t .sinks .items) ≡ 88) wh
           }
 
   -- the same of a state, as the code has it
-  module _ (s : Path) (all : length (s .seen) ≡ 48) (most : length (s .frames) ≡ 48) (g : Good t s) (some : 0 < s .depth) where
+  module _ (s : Path) (g : Good t s) (some : 0 < s .depth) where
     abbrev top : ℕ
     top = s .depth - 1
 
@@ -173,7 +173,7 @@ module _ (t : Tables) (b : Linked t) (full : length (t .sinks .items) ≡ 88) wh
     lifted r h = subst (λ (k : ℕ). Stepped t (record { seen = s .seen; frames = s .frames; depth = k }) (r k)) depth-is h
 
     pub step-pop : t .sinks .count ≤ f .at → Stepped t s (record { seen = s .seen; frames = s .frames; depth = top })
-    step-pop h = lifted (λ k. record { seen = s .seen; frames = s .frames; depth = top }) (pop (s .seen) (s .frames) top all most room h)
+    step-pop h = lifted (λ k. record { seen = s .seen; frames = s .frames; depth = top }) (pop (s .seen) (s .frames) top (g .all) (g .most) room h)
 
     module _ (h : f .at < t .sinks .count) where
       abbrev passed : Path
@@ -182,19 +182,19 @@ module _ (t : Tables) (b : Linked t) (full : length (t .sinks .items) ≡ 88) wh
       pub step-other : (itemAt t (f .at) .owner ≡ f .node → ⊥) → Stepped t s passed
       step-other o =
           lifted (λ k. record { seen = s .seen; frames = set (s .frames) top after; depth = k })
-          (pass (s .seen) (s .frames) top all most room h (λ k. resume-other (seenOf t s) f (stackOf noFrame (s .frames) top) h k o))
+          (pass (s .seen) (s .frames) top (g .all) (g .most) room h (λ k. resume-other (seenOf t s) f (stackOf noFrame (s .frames) top) h k o))
 
       abbrev to : ℕ
       to = itemAt t (f .at) .to
 
       in-seen : to < length (take (t .n) (s .seen))
-      in-seen = rw (length-take-le (t .n) (s .seen) (omega (arith, b .nodes))) (sink-to (f .at) h)
+      in-seen = rw (length-take-le (t .n) (s .seen) (omega (arith, b .nodes, g .all))) (sink-to (f .at) h)
 
       pub step-seen : itemAt t (f .at) .owner ≡ f .node → (getD (s .seen) to 0 ≡ 0 → ⊥) → Stepped t s passed
       step-seen o e =
           let same : getD (seenOf t s) to 3 ≡ getD (s .seen) to 0 = getD-any (seenOf t s) to 3 0 in-seen ∙ getD-take (t .n) (s .seen) to 0 (sink-to (f .at) h) in
           lifted (λ k. record { seen = s .seen; frames = set (s .frames) top after; depth = k })
-          (pass (s .seen) (s .frames) top all most room h (λ k. resume-seen (seenOf t s) f (stackOf noFrame (s .frames) top) h k o (λ z. e (sym same ∙ z))))
+          (pass (s .seen) (s .frames) top (g .all) (g .most) room h (λ k. resume-seen (seenOf t s) f (stackOf noFrame (s .frames) top) h k o (λ z. e (sym same ∙ z))))
 
       pub step-push : itemAt t (f .at) .owner ≡ f .node → getD (s .seen) to 0 ≡ 0 →
           Stepped t s
@@ -202,7 +202,7 @@ module _ (t : Tables) (b : Linked t) (full : length (t .sinks .items) ≡ 88) wh
       step-push o e =
           lifted
           (λ k. record { seen = set (s .seen) to 1; frames = set (set (s .frames) top after) k (record { node = to; at = 0 }); depth = k + 1 })
-          (push (s .seen) (s .frames) top all most room h o e)
+          (push (s .seen) (s .frames) top (g .all) (g .most) room h o e)
 
       -- some node is unseen, so the path has room
       pub step-room : getD (s .seen) to 0 ≡ 0 → s .depth < t .n
@@ -218,11 +218,16 @@ module _ (t : Tables) (b : Linked t) (full : length (t .sinks .items) ≡ 88) wh
     pub seen-at : getD (take (t .n) sn) p 3 ≡ getD sn p 0
     seen-at = getD-take (t .n) sn p 3 l ∙ getD-any sn p 3 0 (omega (arith, b .nodes))
 
-    pub starts-good : getD sn p 0 ≡ 0 → 1 + unseens (take (t .n) (set sn p 1)) ≤ t .n
-    starts-good e =
+    pub starts-good : getD sn p 0 ≡ 0 → (fs : List Frame) → length fs ≡ 48 → Good t (record { seen = set sn p 1; frames = fs; depth = 1 })
+    starts-good e fs most =
         let k : length (take (t .n) sn) ≡ t .n = length-take-le (t .n) sn (omega (arith, b .nodes)) in
-        rw (take-set-lt (t .n) sn p 1 l)
-        (omega (arith, unseens-set (take (t .n) sn) p 1 refl (rw k l) (seen-at ∙ e), unseens-le (take (t .n) sn)))
+        record {
+          all = simp length-set all;
+          most = most;
+          room =
+              rw (take-set-lt (t .n) sn p 1 l)
+              (omega (arith, unseens-set (take (t .n) sn) p 1 refl (rw k l) (seen-at ∙ e), unseens-le (take (t .n) sn)));
+        }
 
     pub starts : getD sn p 0 ≡ 0 → resume (t .n - 1) t (take (t .n) (set sn p 1)) (record { node = p; at = 0 } ∷ []) ≡ markFrom (t .n) (graphOf t) (take (t .n) sn) p
     unfolding resume xs

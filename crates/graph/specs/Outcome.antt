@@ -1,10 +1,10 @@
 -- What `graph` answers: the tables of a graph, every field of them.
 -- Assumes nothing.
-use Prim.Native.Nat.{ℕ, suc, _+_, _≤_, _<_}
+use Prim.Native.Nat.{ℕ, suc, _≤_, _<_}
 use mathlib.Core.Path.{_≡_}
 use mathlib.Core.Option.{Option, none, some}
 use mathlib.Core.List.{List, [], _∷_, map}
-use lib.ListN.{length, set, replicate}
+use lib.ListN.{length, replicate}
 use Rattle.laws.specs.Lists.{All, ownedBy, tabulate, joined, flat, padded}
 use Rattle.chart.specs.declared.Board.{Board as BoardTables}
 use Rattle.chart.specs.declared.Line.{Line as LineItem}
@@ -142,13 +142,6 @@ pub record Begun (b : BoardTables) (r : Tables) : Type 0 where
 -- the records that p owns
 abbrev pub ownedItems : ℕ → List Item → List Item
 ownedItems = ownedBy (λ r. r .owner) (λ r. r)
-
-abbrev pub pushed : Table → Item → Table
-pushed t x = record { items = set (t .items) (t .count) x; count = t .count + 1 }
-
-abbrev pub pushAll : Table → List Item → Table
-pushAll t [] = t
-pushAll t (x ∷ xs) = pushAll (pushed t x) xs
 
 -- the records of node 0, of node 1, .. of n nodes
 abbrev pub inOrder : ℕ → List Item → List Item

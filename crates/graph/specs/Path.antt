@@ -4,7 +4,7 @@ use Prim.Native.Nat.{ℕ, suc, _+_, _-_, _*_, _≤_, _<_}
 use mathlib.Core.Path.{_≡_}
 use mathlib.Core.List.{List, [], _∷_}
 use lib.Dec.{eqb}
-use lib.ListN.{take, drop}
+use lib.ListN.{length, take, drop}
 use Rattle.laws.specs.Lists.{stackOf, tally}
 use Rattle.graph.specs.declared.Tables.{Tables}
 use Rattle.graph.specs.declared.reach.Path.{Path}
@@ -40,11 +40,14 @@ answer t s = resume (t .n - s .depth) t (seenOf t s) (stackOf noFrame (s .frames
 abbrev pub effort : Tables → Path → ℕ
 effort t s = 89 * unseens (seenOf t s) + looks (stackOf noFrame (s .frames) (s .depth))
 
--- each node on the path was unseen before it
+-- the arrays have their sizes, and each node on the path was unseen before it
 pub record Good (t : Tables) (s : Path) : Type 0 where
+  pub all : length (s .seen) ≡ 48
+  pub most : length (s .frames) ≡ 48
   pub room : s .depth + unseens (seenOf t s) ≤ t .n
 
+-- r is s one step on
 pub record Stepped (t : Tables) (s r : Path) : Type 0 where
-  pub room : r .depth + unseens (seenOf t r) ≤ t .n
+  pub good : Good t r
   pub same : answer t r ≡ answer t s
   pub less : effort t r < effort t s

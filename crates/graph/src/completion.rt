@@ -173,12 +173,11 @@ fn complete_sources(t: Tables, p: u8, given: usize) -> Tables
     requires { ⌜ p < t .n ⌝ }
     ensures { λ r. ⌜ SourcesDone given t p r ⌝ }
 {
-    let count = t.sources.count;
+    let sources = t.sources;
     let mut s = t;
     let mut j: u8 = 0;
     let mut k: usize = 0;
-    while k < count {
-        let sources = s.sources;
+    while k < sources.count {
         let e = sources.items[k];
         let at = k;
         k += 1;

@@ -6,7 +6,6 @@ ghost use lib.ListN.{take};
 ghost use Rattle.graph.specs.Tables.{Linked, graphOf, itemsOf, owned};
 ghost use Rattle.graph.specs.Graph.{none?};
 ghost use Rattle.graph.specs.Cutting.{markFrom, reached};
-ghost use Rattle.graph.specs.Path.{Stepped, Good};
 use crate::Table;
 use crate::Tables;
 use crate::cutting::Found;
@@ -25,42 +24,7 @@ pub struct Path {
     pub depth: usize,
 }
 
-// One step: the last node of the path looks at one record of the table, or leaves the path at the table's end.
-fn step(t: Tables, s: Path) -> Path
-    requires { ⌜ Linked t ⌝ }
-    requires { ⌜ Good t s ⌝ }
-    requires { ⌜ 0 < s .depth ⌝ }
-    ensures { λ r. ⌜ Stepped t s r ⌝ }
-{
-    let table = t.sinks;
-    let top = s.depth - 1;
-    let f = s.frames[top];
-    let k = f.at as usize;
-    let mut next = s;
-    if table.count <= k {
-        next.depth = top;
-        return next;
-    }
-    next.frames[top] = Frame {
-        node: f.node,
-        at: f.at + 1,
-    };
-    let e = table.items[k];
-    if e.owner != f.node {
-        return next;
-    }
-    let q = e.to as usize;
-    if next.seen[q] != 0 {
-        return next;
-    }
-    next.seen[q] = 1;
-    let d = next.depth;
-    next.frames[d] = Frame { node: e.to, at: 0 };
-    next.depth = d + 1;
-    next
-}
-
-// The nodes that a walk from p reaches are marked.
+// The nodes that a walk from p reaches are marked. One step: the last node of the path looks at one record of the table, or leaves the path at the table's end.
 pub fn mark_from(t: Tables, seen: [u8; 48], p: u8) -> [u8; 48]
     requires { ⌜ Linked t ⌝ }
     requires { ⌜ p < t .n ⌝ }
@@ -70,6 +34,7 @@ pub fn mark_from(t: Tables, seen: [u8; 48], p: u8) -> [u8; 48]
     if seen[at] != 0 {
         return seen;
     }
+    let items = t.sinks.items;
     let mut first = seen;
     first[at] = 1;
     let mut frames = [Frame { node: 0, at: 0 }; 48];
@@ -80,7 +45,29 @@ pub fn mark_from(t: Tables, seen: [u8; 48], p: u8) -> [u8; 48]
         depth: 1,
     };
     while 0 < s.depth {
-        s = step(t, s);
+        let top = s.depth - 1;
+        let f = s.frames[top];
+        let k = f.at as usize;
+        if t.sinks.count <= k {
+            s.depth = top;
+            continue;
+        }
+        s.frames[top] = Frame {
+            node: f.node,
+            at: f.at + 1,
+        };
+        let e = items[k];
+        if e.owner != f.node {
+            continue;
+        }
+        let q = e.to as usize;
+        if s.seen[q] != 0 {
+            continue;
+        }
+        s.seen[q] = 1;
+        let d = s.depth;
+        s.frames[d] = Frame { node: e.to, at: 0 };
+        s.depth = d + 1;
     }
     s.seen
 }

@@ -7,12 +7,11 @@ use mathlib.Core.List.{map}
 use lib.ListN.{length, take, length-set}
 use Rattle.laws.proofs.Lists.{mapped-long}
 use Rattle.graph.specs.declared.Item.{Item}
-use Rattle.graph.proofs.EndsLaws.{stored-more, stored-all}
+use Rattle.graph.specs.Tables.{noItem}
+use Rattle.graph.proofs.Lists.{stored-more, stored-all}
 use borrow.Author.Needs.{needs}
 use Rattle.graph.proofs.ends_of.Statement.{statement}
 use Rattle.graph.proofs.ends_of.Tie as tie
-use Rattle.graph.proofs.ends_of.Reads as reads
-use Rattle.graph.proofs.ends_of.Lts as lts
 
 abbrev Inv-loop : tie.InvT-loop
 Inv-loop t owner₀ to₀ k₀ owner to k =
@@ -24,35 +23,27 @@ abbrev μ-loop : tie.MeasureT-loop
 long : (c : tie.Start Inv-loop μ-loop) → length (c .args .t1 .items) ≡ 88
 long c = search (needs, mapped-long)
 
--- src/lib.rt:112:5
 loop-holds : tie.Need-loop-holds Inv-loop μ-loop
 loop-holds c = (search needs, refl, refl, refl, refl)
 
--- src/lib.rt:113:17
 mul-x : tie.Need-mul-x Inv-loop μ-loop
 mul-x c = search needs
 
--- src/lib.rt:113:17
 element-copy-out-x : tie.Need-element-copy-out-x Inv-loop μ-loop
 element-copy-out-x c = search needs
 
--- src/lib.rt:114:9
 array-write-owner : tie.Need-array-write-owner Inv-loop μ-loop
 array-write-owner c = search needs
 
--- src/lib.rt:115:9
 array-write-to : tie.Need-array-write-to Inv-loop μ-loop
 array-write-to c = search needs
 
--- src/lib.rt:116:9
 add-k : tie.Need-add-k Inv-loop μ-loop
 add-k c = search needs
 
--- src/lib.rt:112:5
 loop-less : tie.Need-loop-less Inv-loop μ-loop
 loop-less c = search needs
 
--- src/lib.rt:112:5
 loop-again : tie.Need-loop-again Inv-loop μ-loop
 loop-again c =
     let a = c .before .before in
@@ -63,11 +54,10 @@ loop-again c =
       search needs,
       length-set (l .owner) (l .k) _ ∙ l .inv .1,
       length-set (l .to) (l .k) _ ∙ l .inv .2,
-      stored-more (λ (x : Item). x .owner) xs (l .owner) (l .k) (omega arith) (omega arith) (l .inv .3),
-      stored-more (λ (x : Item). x .to) xs (l .to) (l .k) (omega arith) (omega arith) (l .inv .4),
+      stored-more (λ (x : Item). x .owner) xs (l .owner) noItem (l .k) (omega arith) (omega arith) (l .inv .3),
+      stored-more (λ (x : Item). x .to) xs (l .to) noItem (l .k) (omega arith) (omega arith) (l .inv .4),
     )
 
--- src/lib.rt:106:1
 returns : tie.Need-returns Inv-loop μ-loop
 returns c =
     let l = c .before .loop in
