@@ -1,17 +1,18 @@
--- The first columns of a graph, from its tables.
+-- The first columns of a graph, from the ends of its nodes and from its tables.
 -- Assumes nothing.
-use Prim.Native.Nat.{ℕ, _+_, _-_, _≤_}
+use Prim.Native.Nat.{ℕ, _-_, _≤_}
 use native.Mathlib.Omega.{arith}
-use mathlib.Core.Path.{_≡_, refl, ap, sym, subst, _∙_}
+use mathlib.Core.Path.{_≡_, ap, sym, subst, _∙_}
 use mathlib.Core.List.{List, _++_}
-use lib.ListN.{length, replicate}
+use lib.ListN.{length, take, replicate}
+use lib.Seq.{take-at}
 use Rattle.laws.specs.Lists.{padded}
 use Rattle.laws.proofs.Lists.{padded-is, length-tabulate}
-use Rattle.chart.specs.declared.Answer.{Answer}
 use Rattle.chart.specs.declared.Answer.the-variants.{Ready, Refused}
 use Rattle.graph.specs.declared.Tables.{Tables}
+use Rattle.graph.specs.declared.Ends.{Ends}
 use Rattle.graph.specs.declared.Outcome.{Outcome as GraphOutcome}
-use Rattle.graph.specs.Graphed.{Graphed, ready as cut, refusal as refused, graphed}
+use Rattle.graph.specs.Graphed.{ready as cut, refusal as refused, graphed}
 use Rattle.graph.specs.Outcome.{IsGraph}
 use Rattle.graph.specs.Shape.{Shape, shapeOf}
 use Rattle.graph.specs.Ends.{endsIn, shapeFrom, Linked as EndsLinked}
@@ -19,15 +20,39 @@ use Rattle.graph.specs.Tables.{Linked, graphOf}
 use Rattle.graph.proofs.EndsLaws.{shape-held, linked-held, sources-long, sinks-long}
 use Rattle.order.specs.declared.Outcome.{Outcome}
 use Rattle.order.specs.Chains.{columns}
-use Rattle.order.specs.Claims.{Aimed, EachOnce}
-use Rattle.order.specs.Ordered.{Ordered, ready, refusal, drawn, ordered, outcomeOf, IsOrder}
+use Rattle.order.specs.Claims.{EachOnce}
+use Rattle.order.specs.Ordered.{ready, refusal, ordered, outcomeOf, IsOrder, columnsIn}
 use Rattle.order.proofs.Nodes.{each-once}
+use Rattle.order.proofs.Links.{linked-yes}
 use Rattle.order.proofs.Pushed.{shape-size, shape-aimed}
 
 pub columns-long : (g : Shape) → length (columns g) ≡ length g
 unfolding columns
 columns-long g = length-tabulate _ 0 (length g)
 
+-- ---- from the ends of all nodes
+module _ (n : ℕ) (sources sinks : Ends) (l : EndsLinked n sources) (m : EndsLinked n sinks) where
+  size-in : length (columns (shapeFrom n sources sinks)) ≡ n
+  size-in = columns-long (shapeFrom n sources sinks) ∙ shape-size n sources sinks l m
+
+  once-in : EachOnce n (columns (shapeFrom n sources sinks))
+  once-in = subst (λ (k : ℕ). EachOnce k (columns (shapeFrom n sources sinks))) (shape-size n sources sinks l m) (each-once (shapeFrom n sources sinks) (shape-aimed n sources sinks l m))
+
+  -- the whole array
+  whole-in : columns (shapeFrom n sources sinks) ++ replicate (48 - n) 0 ≡ padded 48 0 (columns (shapeFrom n sources sinks))
+  whole-in =
+      let cs = columns (shapeFrom n sources sinks) in
+      let few : length cs ≤ 48 = omega (arith, size-in, l .nodes) in
+      ap (λ (k : ℕ). cs ++ replicate (48 - k) 0) (sym size-in) ∙ sym (padded-is 48 0 cs few)
+
+  pub columns-in : columnsIn n sources sinks ≡ columns (shapeFrom n sources sinks) ++ replicate (48 - n) 0
+  unfolding columnsIn
+  columns-in = rw (linked-yes n sources l, linked-yes n sinks m) (sym whole-in)
+
+  pub columns-each : EachOnce n (take n (columnsIn n sources sinks))
+  columns-each = rw (columns-in, take-at (columns (shapeFrom n sources sinks)) (replicate (48 - n) 0) n size-in) once-in
+
+-- ---- from the tables
 module _ (t : Tables) (long : length (t .sources .items) ≡ 88) (long₂ : length (t .sinks .items) ≡ 88) (l : Linked t) where
   pub sources-linked : EndsLinked (t .n) (endsIn (t .sources))
   sources-linked = linked-held (t .n) (t .sources) long (l .source-room) (l .nodes) (l .source-owners) (l .source-aims)
@@ -36,22 +61,13 @@ module _ (t : Tables) (long : length (t .sources .items) ≡ 88) (long₂ : leng
   sinks-linked = linked-held (t .n) (t .sinks) long₂ (l .sink-room) (l .nodes) (l .sink-owners) (l .sink-aims)
 
   pub size : length (columns (shapeOf (graphOf t))) ≡ t .n
-  size = rw (← shape-held t) (columns-long (shapeFrom (t .n) (endsIn (t .sources)) (endsIn (t .sinks))) ∙ shape-size (t .n) (endsIn (t .sources)) (endsIn (t .sinks)) sources-linked sinks-linked)
+  size = rw (← shape-held t) (size-in (t .n) (endsIn (t .sources)) (endsIn (t .sinks)) sources-linked sinks-linked)
 
-  -- the whole array
   pub whole : columns (shapeFrom (t .n) (endsIn (t .sources)) (endsIn (t .sinks))) ++ replicate (48 - t .n) 0 ≡ padded 48 0 (columns (shapeOf (graphOf t)))
-  whole =
-      let cs = columns (shapeOf (graphOf t)) in
-      let m : length cs ≤ 48 = omega (arith, size, l .nodes) in
-      ap (λ (g : Shape). columns g ++ replicate (48 - t .n) 0) (shape-held t)
-      ∙ ap (λ (k : ℕ). cs ++ replicate (48 - k) 0) (sym size)
-      ∙ sym (padded-is 48 0 cs m)
+  whole = whole-in (t .n) (endsIn (t .sources)) (endsIn (t .sinks)) sources-linked sinks-linked ∙ ap (λ (g : Shape). padded 48 0 (columns g)) (shape-held t)
 
   pub once : EachOnce (length (columns (shapeOf (graphOf t)))) (columns (shapeOf (graphOf t)))
-  once =
-      let g = shapeOf (graphOf t) in
-      let a : Aimed (length g) g = subst (λ (h : Shape). Aimed (length h) h) (shape-held t) (shape-aimed (t .n) (endsIn (t .sources)) (endsIn (t .sinks)) sources-linked sinks-linked) in
-      rw (columns-long g) (each-once g a)
+  once = rw (size, ← shape-held t) (once-in (t .n) (endsIn (t .sources)) (endsIn (t .sinks)) sources-linked sinks-linked)
 
 -- ---- what `order` promises, from what `graph` does
 module _ (s : List ℕ) (o : GraphOutcome) (a : IsGraph s o) where

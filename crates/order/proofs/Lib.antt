@@ -17,4 +17,5 @@ pub mod Start
 pub mod Most
 pub mod Pushed
 pub mod Whole
+pub mod Links
 pub mod Graphs

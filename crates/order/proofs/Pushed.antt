@@ -65,7 +65,7 @@ under-keep : (n : ℕ) (b : Bool) (t : ℕ) (xs : List ℕ) → t < n → Under 
 under-keep n true t xs h u = (h, u)
 under-keep n false t xs h u = u
 
-under-targets : (n p c : ℕ) (os ts : List ℕ) → ((k : ℕ) → k < c → getD ts k 0 < n) → Under n (targetsOf p os (take c ts))
+pub under-targets : (n p c : ℕ) (os ts : List ℕ) → ((k : ℕ) → k < c → getD ts k 0 < n) → Under n (targetsOf p os (take c ts))
 under-targets n p c [] ts h = tt
 under-targets n p zero (o ∷ os) ts h = tt
 under-targets n p (suc c) (o ∷ os) [] h = tt
@@ -252,7 +252,7 @@ take-few zero xs = omega arith
 take-few (suc k) [] = omega arith
 take-few (suc k) (x ∷ xs) = omega (arith, take-few k xs)
 
-ends-few : (e : Ends) (n : ℕ) → sumTo n (λ q. length (endsOf e q)) ≤ e .count
+pub ends-few : (e : Ends) (n : ℕ) → sumTo n (λ q. length (endsOf e q)) ≤ e .count
 ends-few e n = omega (arith, owned-few n (take (e .count) (e .owner)) (take (e .count) (e .to)), take-few (e .count) (e .owner))
 
 module _ (n : ℕ) (sources sinks : Ends) (x : Linked n sources) (y : Linked n sinks) where

@@ -2,6 +2,7 @@
 -- Assumes nothing.
 use Prim.Native.Nat.{ℕ, zero, suc, _+_, _-_, _*_, _/_, _≤_, _<_}
 use native.Mathlib.Omega.{arith}
+use native.Mathlib.Numerals.{add-one}
 use native.Mathlib.Nat.{mul-le-mul, mul-suc, suc-mul}
 use mathlib.Core.Logic.{inl, inr}
 use mathlib.Core.Path.{_≡_, refl, ap, sym, _∙_}
@@ -27,6 +28,10 @@ tri b = b * (b - 1) / 2
 
 tri-step : (b : ℕ) → tri (suc b) ≡ tri b + b
 tri-step b = let e : suc b - 1 ≡ b = omega arith in ap (λ (v : ℕ). suc b * v / 2) e ∙ tri-next b
+
+-- the next pair of a
+pub pair-next : (a b : ℕ) → pairAt a (b + 1) ≡ pairAt a b + b
+pair-next a b = let e : tri (b + 1) ≡ tri b + b = ap tri (add-one b) ∙ tri-step b in omega arith
 
 -- a later row lies above a whole earlier one
 tri-above : (b k : ℕ) → tri b + b ≤ tri (b + suc k)

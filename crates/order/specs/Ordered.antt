@@ -2,12 +2,17 @@
 -- Assumes nothing.
 use Prim.Native.Nat.{ℕ}
 use mathlib.Core.Path.{_≡_}
+use mathlib.Core.Bool.{Bool, cond, _&&_}
 use mathlib.Core.List.{List}
-use lib.ListN.{length, replicate}
+use lib.Dec.{leb, ltb}
+use lib.ListN.{length, take, replicate}
+use Rattle.laws.specs.Bytes.{allOf}
 use Rattle.laws.specs.Lists.{padded}
 use Rattle.chart.specs.declared.Answer.{Answer}
 use Rattle.chart.specs.declared.Answer.the-variants.{Ready, Refused}
 use Rattle.graph.specs.Graphed.{Graphed, ready as cut, refusal as refused, graphed}
+use Rattle.graph.specs.declared.Ends.{Ends}
+use Rattle.graph.specs.Ends.{shapeFrom}
 use Rattle.graph.specs.Shape.{shapeOf}
 use Rattle.order.specs.declared.Outcome.{Outcome}
 use Rattle.order.specs.Chains.{columns}
@@ -37,3 +42,13 @@ pub record IsOrder (s : List ℕ) (r : Outcome) : Type 0 where
   pub whole : r ≡ outcomeOf (ordered s)
   -- the columns are 0, 2, .. 2(N - 1), each node exactly one
   pub each : (cs : List ℕ) → ordered s ≡ ready cs → EachOnce (length cs) cs
+
+-- ---- the same from the ends of all nodes
+-- n nodes: the counts are within the arrays, and each end is one node's and leads to a node
+abbrev pub linkedOf : ℕ → Ends → Bool
+linkedOf n e =
+    leb n 48 && (leb (e .count) 88 && (allOf (λ (o : ℕ). ltb o n) (take (e .count) (e .owner)) && allOf (λ (t : ℕ). ltb t n) (take (e .count) (e .to))))
+
+-- the first columns of n nodes with these sources and sinks; 0 past them, and where the ends are not linked
+unfoldable pub columnsIn : ℕ → Ends → Ends → List ℕ
+columnsIn n sources sinks = cond (linkedOf n sources && linkedOf n sinks) (padded 48 0 (columns (shapeFrom n sources sinks))) (replicate 48 0)

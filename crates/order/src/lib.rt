@@ -3,9 +3,10 @@ ghost use mathlib.Core.Path.{_≡_};
 ghost use Rattle.graph.specs.Tables.{Linked, graphOf};
 ghost use Rattle.graph.specs.Shape.{shapeOf};
 ghost use Rattle.order.specs.Chains.{columns};
-ghost use Rattle.order.specs.Ordered.{ready, refusal, ordered, outcomeOf, IsOrder};
+ghost use Rattle.order.specs.Ordered.{ready, refusal, ordered, outcomeOf, IsOrder, linkedOf, columnsIn};
 use chart::Answer;
 use columns::first_of;
+use graph::Ends;
 use graph::Tables;
 
 mod chains;
@@ -63,4 +64,40 @@ pub fn order(chart: &[u8]) -> Outcome
         Answer::Ready => drawn(g),
         Answer::Refused(number, second) => refused(number, second),
     }
+}
+
+// Whether each of the ends is one of n nodes' and leads to one, with no count past its array.
+fn linked(e: Ends, n: usize) -> bool
+    ensures { λ r. ⌜ r ≡ linkedOf n e ⌝ }
+{
+    if 48 < n {
+        return false;
+    }
+    if 88 < e.count {
+        return false;
+    }
+    let mut k = 0usize;
+    while k < e.count {
+        if n <= e.owner[k] as usize {
+            return false;
+        }
+        if n <= e.to[k] as usize {
+            return false;
+        }
+        k += 1;
+    }
+    true
+}
+
+// Each node's first column, from the sources and sinks of n nodes; 0 past the last node, and all of them 0 where the ends are not linked.
+pub fn order_of(sources: Ends, sinks: Ends, n: usize) -> [u8; 48]
+    ensures { λ r. ⌜ r ≡ columnsIn n sources sinks ⌝ }
+{
+    if !linked(sources, n) {
+        return [0; 48];
+    }
+    if !linked(sinks, n) {
+        return [0; 48];
+    }
+    first_of(sources, sinks, n)
 }

@@ -4,7 +4,7 @@ ghost use Prim.Native.Nat.{ℕ, suc, _+_, _-_, _<_, _≤_};
 ghost use mathlib.Core.Bool.{_||_};
 ghost use lib.Dec.{ltb};
 ghost use lib.ListN.{getD};
-ghost use Rattle.order.specs.Sums.{Two, at, bumpOf, befores, afters, legAt, gainOf, pairStep, rowAfter, rowsAfter, Fits16, RowFits, RoundFits, Coded, weighed, Weighable};
+ghost use Rattle.order.specs.Sums.{Two, at, bumpOf, befores, afters, gainOf, pairStep, rowAfter, rowsAfter, Fits16, RowFits, RoundFits, Coded, weighed, Weighable};
 use crate::sums::pair_at;
 
 // One more for the pair of p and q, if p < q.
@@ -40,33 +40,50 @@ pub fn tally(codes: &[u16; 352], count: usize, before: &mut [u16; 1128], after: 
     }
 }
 
-// What a pair with the sums x and u and one with y and v add to the first sum of a third.
-fn leg(x: u16, u: u16, y: u16, v: u16) -> u32
-    ensures { λ r. ⌜ (r ≡ legAt x u y v) × (r ≤ 131070) ⌝ }
+// A sum as a number of 32 bits.
+fn wide(x: u16) -> u32
+    ensures { λ r. ⌜ (r ≡ x) × (r < 65536) ⌝ }
 {
-    if (x as u32) + (u as u32) == 0 {
-        return 0;
-    }
-    if (y as u32) + (v as u32) == 0 {
-        return 0;
-    }
-    (x as u32) + (y as u32)
+    x as u32
 }
 
-// What all ways from a to c add to the sum of their pair.
-fn gain(ws: &[u16; 1128], us: &[u16; 1128], a: usize, c: usize) -> u32
+// What is added to the two sums of a pair.
+pub struct Gains {
+    pub before: u32,
+    pub after: u32,
+}
+
+// What all ways from a to c add to the sums of their pair. The places of the pairs (a, b) and (b, c) go up with b.
+fn gain(ws: &[u16; 1128], us: &[u16; 1128], a: usize, c: usize) -> Gains
     requires { ⌜ (a < c) × (c < 48) ⌝ }
-    ensures { λ r. ⌜ r ≡ gainOf (now (ws .entry)) (now (us .entry)) a c ⌝ }
+    ensures before { λ r. ⌜ r .before ≡ gainOf (now (ws .entry)) (now (us .entry)) a c ⌝ }
+    ensures after { λ r. ⌜ r .after ≡ gainOf (now (us .entry)) (now (ws .entry)) a c ⌝ }
 {
-    let mut total = 0u32;
-    let mut b = a + 1;
-    while b < c {
-        let i = pair_at(a, b);
-        let j = pair_at(b, c);
-        total += leg(ws[i], us[i], ws[j], us[j]);
+    let last = c as u32;
+    let mut before = 0u32;
+    let mut after = 0u32;
+    let mut b = a as u32 + 1;
+    let mut i = pair_at(a, a + 1) as u32;
+    let mut j = pair_at(a, c) as u32 + 1;
+    while b < last {
+        let x = wide(ws[i as usize]);
+        let u = wide(us[i as usize]);
+        if 0 < x + u {
+            let y = wide(ws[j as usize]);
+            let v = wide(us[j as usize]);
+            if 0 < y + v {
+                before += x + y;
+                after += u + v;
+            }
+        }
+        i += b;
+        j += 1;
         b += 1;
     }
-    total
+    Gains {
+        before: before,
+        after: after,
+    }
 }
 
 // Whether the pair with the sums x and y takes part in a round in which missing pairs are made, or not.
@@ -91,9 +108,8 @@ fn round_pair(before: &mut [u16; 1128], after: &mut [u16; 1128], a: usize, c: us
     let y = after[i];
     if takes_part(make, x, y) {
         let g = gain(before, after, a, c);
-        let h = gain(after, before, a, c);
-        before[i] = ((x as u32) + g) as u16;
-        after[i] = ((y as u32) + h) as u16;
+        before[i] = ((x as u32) + g.before) as u16;
+        after[i] = ((y as u32) + g.after) as u16;
     }
 }
 

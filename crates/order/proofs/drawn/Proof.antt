@@ -7,10 +7,6 @@ use Rattle.order.proofs.Graphs.{sources-linked, sinks-linked, size, who
 use borrow.Author.Needs.{needs}
 use Rattle.order.proofs.drawn.Statement.{statement}
 use Rattle.order.proofs.drawn.Tie as tie
-use Rattle.order.proofs.drawn.Reads as reads
-use Rattle.order.proofs.drawn.Lts as lts
-use Rattle.graph.proofs.ends_of.Reads as ends-of-reads
-use Rattle.order.proofs.columns.first_of.Reads as first-of-reads
 
 sources-long : (c : tie.Start) → length (c .args .g .sources .items) ≡ 88
 sources-long c = search (needs, mapped-long)
@@ -18,26 +14,21 @@ sources-long c = search (needs, mapped-long)
 sinks-long : (c : tie.Start) → length (c .args .g .sinks .items) ≡ 88
 sinks-long c = search (needs, mapped-long)
 
--- src/lib.rt:47:28
 ends-of-requires : tie.Need-ends-of-requires
 ends-of-requires c κs = search needs
 
--- src/lib.rt:47:53
 ends-of-requires-2 : tie.Need-ends-of-requires-2
 ends-of-requires-2 c κs = search needs
 
--- src/lib.rt:47:9
 first-of-requires : tie.Need-first-of-requires
 first-of-requires c κs =
     let a = c .before .before .before .before in
     let t = a .args .g in
     (rw (c .before .ends-of .ensures) (sources-linked t (sources-long a) (sinks-long a) (a .pre)), rw (c .ends-of2 .ensures) (sinks-linked t (sources-long a) (sinks-long a) (a .pre)))
 
--- src/lib.rt:50:16
 cast-t8 : tie.Need-cast-t8
 cast-t8 c = search needs
 
--- src/lib.rt:41:1
 returns : tie.Need-returns
 returns c =
     let a = c .before .before .before .before .before .before in
