@@ -24,6 +24,7 @@ mod render_grid;
 mod render_node;
 
 // A box: its top left corner, its width and its height, and the column and row of its cell.
+#[repr(C)]
 pub struct BoxRecord {
     pub x: u32,
     pub y: u32,
@@ -34,6 +35,7 @@ pub struct BoxRecord {
 }
 
 // A curve: the output point x0 y0 where it begins, and the input point x1 y1 where it ends.
+#[repr(C)]
 pub struct Curve {
     pub x0: u32,
     pub y0: u32,
@@ -42,6 +44,7 @@ pub struct Curve {
 }
 
 // A sheet: its size, its origin, how many columns, rows and cuts it has; the first count boxes, and the first drawn curves. It holds no texts.
+#[repr(C)]
 pub struct SheetRecord {
     pub width: u32,
     pub height: u32,

@@ -1,6 +1,6 @@
 -- The label calls: the table is judged after 1 to 14, and a label's part lies within the chart or the table.
 -- Assumes nothing.
-use Prim.Native.Nat.{ℕ, _+_, _≤_, _<_}
+use Prim.Native.Nat.{ℕ, _+_, _-_, _≤_, _<_}
 use native.Mathlib.Omega.{arith}
 use mathlib.Core.Path.{_≡_, refl, sym, ap, _∙_}
 use mathlib.Core.Bool.{Bool, true, false, cond}
@@ -17,7 +17,7 @@ use Rattle.grid.specs.Labels.{noLabel}
 use Rattle.grid.specs.Labelled.{Labelled, ready, refusal, labelled, labelOutcomeOf}
 use Rattle.grid.proofs.LabelPlaces.{Lies, labelled-lies}
 use Rattle.path.specs.declared.label.Span.{Span}
-use Rattle.path.specs.Label.{chart, table, partAt, standIn, standInsTo, standIns, standInSpan, tabled, answerIn, placeIn, labelPartOf}
+use Rattle.path.specs.Label.{chart, table, partAt, standIn, standInsTo, standIns, standInSpan, tabled, answerIn, placeIn, labelAnswerOf, labelPartOf, spanIn, labelSpanOf, spanPlace}
 use Rattle.path.proofs.Labels.{stand-ins-long, stand-in-low, stand-in-high}
 
 -- ---- the table
@@ -103,9 +103,59 @@ module _ (s t : List ℕ) (x y k i : ℕ) (r : LabelOutcome) (e : r ≡ labelOut
       let three : placeIn (ready (r .place)) ≡ chart (r .place .at) (r .place .at + r .place .len) = rw f in
       one ∙ sym (part-is ∙ three)
 
+  -- ---- the same part as a span
+  span-is : labelSpanOf t (labelled s x y k i) ≡ spanIn (ready (r .place))
+  span-is = rw (found .0, found .1)
+
+  pub span-fits : r .place .fixed ≡ true → (p : Span) → p ≡ standInSpan (r .place .number) → (p .at ≤ p .end) × (p .end ≤ 86)
+  span-fits f p h =
+      let w = span-within (r .place .number) (lies .below f) (ltb (r .place .number) 10) refl in
+      let at = ap (λ (z : Span). z .at) h in
+      let end = ap (λ (z : Span). z .end) h in
+      (omega (arith, at, end), omega (arith, end, w))
+
+  pub fixed-span : r .place .fixed ≡ true → (p : Span) → p ≡ standInSpan (r .place .number) →
+      record { answer = Ready; fixed = true; at = p .at; len = p .end - p .at } ≡ labelSpanOf t (labelled s x y k i)
+  fixed-span f p h = rw (span-is, f, h)
+
+  pub given-span : r .place .fixed ≡ false → record { answer = Ready; fixed = false; at = r .place .at; len = r .place .len } ≡ labelSpanOf t (labelled s x y k i)
+  given-span f = rw (span-is, f)
+
 -- refused: the empty part at the chart's start
 pub refused-part : (v : Labelled) (r : LabelOutcome) (a b m n : ℕ) → r ≡ labelOutcomeOf v → r .answer ≡ Refused a b → partAt false 0 0 m n ≡ placeIn v
 refused-part (ready p) r a b m n e f =
     let g : r .answer ≡ Ready = ap (λ (u : LabelOutcome). u .answer) e in
     let z : _≡_ {A = ℕ} 0 1 = cc in absurd (omega arith)
 refused-part (refusal i j) r a b m n e f = rw (le-leb 0 m (omega arith))
+
+pub refused-span : (v : Labelled) (r : LabelOutcome) (a b : ℕ) → r ≡ labelOutcomeOf v → r .answer ≡ Refused a b →
+    record { answer = Refused a b; fixed = false; at = 0; len = 0 } ≡ spanIn v
+refused-span (ready p) r a b e f =
+    let g : r .answer ≡ Ready = ap (λ (u : LabelOutcome). u .answer) e in
+    let z : _≡_ {A = ℕ} 0 1 = cc in absurd (omega arith)
+refused-span (refusal i j) r a b e f =
+    let g : Refused a b ≡ Refused i j = sym f ∙ ap (λ (u : LabelOutcome). u .answer) e in
+    rw g
+
+-- the place that a label's span names is the one of its part
+span-place : (p : LabelPlace) (b : Bool) → p .fixed ≡ b → spanPlace (spanIn (ready p)) ≡ placeIn (ready p)
+span-place p true e =
+    let q : ℕ = p .number in
+    let f : length (standInsTo q) + (length (standInsTo q) + length (standIn q) - length (standInsTo q)) ≡ length (standInsTo q) + length (standIn q) = omega arith in
+    rw (e, f)
+span-place p false e = rw e
+
+span-part-in : (v : Labelled) → spanPlace (spanIn v) ≡ placeIn v
+span-part-in (ready p) = span-place p (p .fixed) refl
+span-part-in (refusal i j) = refl
+
+pub span-part : (t : List ℕ) (l : Labelled) → spanPlace (labelSpanOf t l) ≡ labelPartOf t l
+span-part t l = span-part-in (tabled t l)
+
+-- and the answers of the two calls are the same
+span-answer-in : (v : Labelled) → spanIn v .answer ≡ answerIn v .answer
+span-answer-in (ready p) = refl
+span-answer-in (refusal i j) = refl
+
+pub span-answer : (t : List ℕ) (l : Labelled) → labelSpanOf t l .answer ≡ labelAnswerOf t l .answer
+span-answer t l = span-answer-in (tabled t l)

@@ -2,7 +2,7 @@
 -- Assumes nothing.
 use Prim.Native.Nat.{ℕ, zero, suc, _+_, _-_}
 use mathlib.Core.Path.{_≡_, refl}
-use mathlib.Core.Bool.{Bool, cond, _&&_}
+use mathlib.Core.Bool.{Bool, false, cond, _&&_}
 use mathlib.Core.List.{List, [], _∷_, _++_}
 use lib.Dec.{leb}
 use lib.ListN.{length, take, drop}
@@ -12,6 +12,7 @@ use Rattle.chart.specs.declared.Answer.the-variants.{Ready, Refused}
 use Rattle.grid.specs.Labelled.{Labelled, ready, refusal}
 use Rattle.path.specs.declared.label.Span.{Span}
 use Rattle.path.specs.declared.LabelAnswer.{LabelAnswer}
+use Rattle.path.specs.declared.LabelSpan.{LabelSpan}
 use Rattle.path.specs.Number.{digits}
 
 -- r is the part of s from a to e, and not a copy: it points into s, a elements from its start
@@ -74,3 +75,22 @@ placeIn (refusal number second) = chart 0 0
 
 abbrev pub labelPartOf : List ℕ → Labelled → Place
 labelPartOf t l = placeIn (tabled t l)
+
+-- the same part in numbers, for a caller that can't be handed a part: 'a part of the chart or of the stand-in table', where it begins there and how long it is;
+-- refused, 'the empty one at the chart's start'
+abbrev pub spanIn : Labelled → LabelSpan
+spanIn (ready p) =
+    record {
+      answer = Ready;
+      fixed = p .fixed;
+      at = cond (p .fixed) (standInSpan (p .number) .at) (p .at);
+      len = cond (p .fixed) (standInSpan (p .number) .end - standInSpan (p .number) .at) (p .len);
+    }
+spanIn (refusal number second) = record { answer = Refused number second; fixed = false; at = 0; len = 0 }
+
+abbrev pub labelSpanOf : List ℕ → Labelled → LabelSpan
+labelSpanOf t l = spanIn (tabled t l)
+
+-- the place that a span names; of `labelSpanOf` it is `labelPartOf` (`span-part` in proofs/LabelCalls.antt)
+abbrev pub spanPlace : LabelSpan → Place
+spanPlace r = cond (r .fixed) (table (r .at) (r .at + r .len)) (chart (r .at) (r .at + r .len))

@@ -4,7 +4,7 @@ ghost use mathlib.Core.Path.{_≡_};
 ghost use Rattle.path.specs.Reader.{read};
 ghost use Rattle.path.specs.Answers.{sheetAnswer, countOf, givenOf, writtenOf, leftOf};
 ghost use Rattle.grid.specs.Labelled.{labelled, labelOutcomeOf};
-ghost use Rattle.path.specs.Label.{IsAt, tabled, labelAnswerOf, labelPartOf};
+ghost use Rattle.path.specs.Label.{IsAt, tabled, labelAnswerOf, labelPartOf, labelSpanOf};
 use chart::Answer;
 use drawn::segment_of;
 use grid::LabelOutcome;
@@ -37,6 +37,7 @@ mod text;
 mod writer;
 
 // A pen position.
+#[repr(C)]
 pub struct Pen {
     pub x: f32,
     pub y: f32,
@@ -75,6 +76,14 @@ pub struct LabelAnswer {
     pub y: u32,
     pub size: u32,
     pub width: u32,
+}
+
+// A label's text as a place: where it begins and how long it is, in the table where `fixed` and else in the chart; refused, the empty one at the chart's start.
+pub struct LabelSpan {
+    pub answer: Answer,
+    pub fixed: bool,
+    pub at: u32,
+    pub len: u32,
 }
 
 // Segment k of a sheet: 14, then 15.
@@ -234,6 +243,42 @@ pub fn label_part<'a>(
         }
         Answer::Refused(_, _) => {
             return part_of(chart, table, false, 0, 0);
+        }
+    }
+}
+
+// The same part as a place.
+pub fn label_span(chart: &[u8], x: u32, y: u32, table: &[u8], k: usize, i: usize) -> LabelSpan
+    ensures { λ r. ⌜ r ≡ labelSpanOf (now (table .entry)) (labelled (now (chart .entry)) x y k i) ⌝ }
+{
+    let l = find_label(chart, x, y, table, k, i);
+    let answer = l.answer;
+    let place = l.place;
+    match answer {
+        Answer::Ready => {
+            if place.fixed {
+                let s = stand_in(place.number);
+                return LabelSpan {
+                    answer: Answer::Ready,
+                    fixed: true,
+                    at: s.at as u32,
+                    len: (s.end - s.at) as u32,
+                };
+            }
+            return LabelSpan {
+                answer: Answer::Ready,
+                fixed: false,
+                at: place.at as u32,
+                len: place.len as u32,
+            };
+        }
+        Answer::Refused(number, second) => {
+            return LabelSpan {
+                answer: Answer::Refused(number, second),
+                fixed: false,
+                at: 0,
+                len: 0,
+            };
         }
     }
 }

@@ -1,0 +1,294 @@
+/* The functions for C, each called on every chart of a list. Standard input: charts, one hexadecimal line each.
+   Standard output: the listing of each and an empty line, as the program `replay` prints it. A check that fails is said
+   on standard error, with exit status 1; else that has one line, how many charts there were. */
+#include <stdio.h>
+#include <stdlib.h>
+#include <string.h>
+
+#include "margalhosa.h"
+
+enum { CHART = 8192, TEXT = 65536, LIMIT = 8388608, MARK = 0xa5 };
+
+static const uint8_t *const table = (const uint8_t *)MARGALHOSA_TABLE;
+static unsigned long charts;
+
+static void need(int ok, const char *what) {
+    if (ok) return;
+    fflush(stdout);
+    fprintf(stderr, "ctest: chart %lu (from 0): %s\n", charts, what);
+    exit(1);
+}
+
+/* ---- buffers whose bytes past a text must keep their content */
+static void mark(uint8_t *buffer, size_t n) { memset(buffer, MARK, n); }
+
+static int marked(const uint8_t *buffer, size_t n) {
+    for (size_t i = 0; i < n; i++)
+        if (buffer[i] != MARK) return 0;
+    return 1;
+}
+
+/* ---- results */
+static int no_box(margalhosa_box_record b) { return !(b.x | b.y | b.width | b.height | b.column | b.row); }
+
+static int same_box(margalhosa_box_record a, margalhosa_box_record b) {
+    return a.x == b.x && a.y == b.y && a.width == b.width && a.height == b.height && a.column == b.column && a.row == b.row;
+}
+
+static int no_sheet(const margalhosa_sheet_record *s) {
+    uint32_t any = s->width | s->height | s->x | s->y | s->columns | s->rows | s->cuts | s->count | s->drawn;
+    for (int i = 0; i < 48; i++) any |= !no_box(s->boxes[i]);
+    for (int i = 0; i < 88; i++) any |= s->curves[i].x0 | s->curves[i].y0 | s->curves[i].x1 | s->curves[i].y1;
+    return !any;
+}
+
+static int at(margalhosa_pen p, float x, float y) { return p.x == x && p.y == y; }
+
+static int same_segment(margalhosa_segment_result a, margalhosa_segment_result b) {
+    return a.refused == b.refused && a.kind == b.kind && a.second == b.second && at(a.control0, b.control0.x, b.control0.y) &&
+           at(a.control1, b.control1.x, b.control1.y) && at(a.to, b.to.x, b.to.y);
+}
+
+static int refused_segment(margalhosa_segment_result g, uint32_t number, uint64_t second) {
+    return g.refused == number && g.second == second && g.kind == 0 && at(g.control0, 0, 0) && at(g.control1, 0, 0) && at(g.to, 0, 0);
+}
+
+static int refused_box(margalhosa_box_result b, uint32_t number) { return b.refused == number && b.second == 0 && no_box(b.place); }
+
+static int counted(margalhosa_count_result c, uint32_t refused, uint64_t second, uint64_t count) {
+    return c.refused == refused && c.second == second && c.count == count;
+}
+
+static int refused_label(margalhosa_label_result l, uint32_t number, uint32_t second) {
+    return l.refused == number && l.second == second && !(l.x | l.y | l.size | l.width);
+}
+
+static int refused_part(margalhosa_part_result p, uint32_t number, uint32_t second) {
+    return p.refused == number && p.second == second && !(p.fixed | p.at | p.len);
+}
+
+/* Neither call finds the label: the refusal's two numbers. */
+static int no_label(const uint8_t *chart, size_t n, uint32_t x, const uint8_t *t, size_t m, uint32_t k, uint32_t i, uint32_t number,
+                    uint32_t second) {
+    return refused_label(margalhosa_label_place(chart, n, x, 0, t, m, k, i), number, second) &&
+           refused_part(margalhosa_label_part(chart, n, x, 0, t, m, k, i), number, second);
+}
+
+/* ---- the text of a segment, written here from its pen positions: an independent hand */
+static char *number_text(char *out, float v) {
+    unsigned long whole = (unsigned long)v;
+    need(v == (float)whole || v == (float)whole + 0.5f, "a position is neither whole nor a half");
+    return out + sprintf(out, v == (float)whole ? " %lu" : " %lu.5", whole);
+}
+
+static char *segment_text(char *out, margalhosa_segment_result g) {
+    need(g.refused == 0 && g.second == 0 && g.kind <= MARGALHOSA_CLOSE, "a segment's kind");
+    need(g.kind == MARGALHOSA_CUBIC || (at(g.control0, 0, 0) && at(g.control1, 0, 0)), "a control of a segment that has none");
+    need(g.kind != MARGALHOSA_CLOSE || at(g.to, 0, 0), "a position of a close");
+    *out++ = "MLCZ"[g.kind];
+    if (g.kind == MARGALHOSA_CUBIC) {
+        out = number_text(number_text(out, g.control0.x), g.control0.y);
+        out = number_text(number_text(out, g.control1.x), g.control1.y);
+    }
+    if (g.kind != MARGALHOSA_CLOSE) out = number_text(number_text(out, g.to.x), g.to.y);
+    *out = 0;
+    return out;
+}
+
+/* ---- the checks of a sheet; `text` gets its path text, and the length is handed back */
+static size_t check_text(margalhosa_sheet_record s, uint8_t *text) {
+    mark(text, TEXT);
+    margalhosa_count_result c = margalhosa_text(s, text, TEXT);
+    need(c.refused == 0 && c.second == 0 && c.count <= TEXT, "the text of a sheet");
+    size_t n = c.count;
+    need(marked(text + n, TEXT - n), "bytes past the text");
+    if (n > 0) {
+        static uint8_t shorter[TEXT];
+        mark(shorter, TEXT);
+        need(counted(margalhosa_text(s, shorter, n - 1), 16, n, 0), "a buffer one byte short: 16 and the length needed");
+        need(counted(margalhosa_rewrite(text, n, shorter, n - 1), 16, n, 0), "read and written again, one byte short: 16");
+        need(marked(shorter, TEXT), "a refused text writes nothing");
+    }
+    static uint8_t again[TEXT];
+    mark(again, TEXT);
+    need(counted(margalhosa_rewrite(text, n, again, TEXT), 0, 0, n), "the text read and written again");
+    need(memcmp(again, text, n) == 0 && marked(again + n, TEXT - n), "the text comes back byte for byte");
+    return n;
+}
+
+static void check_segments(margalhosa_sheet_record s, const uint8_t *text, size_t n) {
+    static char made[TEXT + 256];
+    char *out = made;
+    uint32_t k = 0;
+    for (;; k++) {
+        margalhosa_segment_result g = margalhosa_segment(s, k), h = margalhosa_text_segment(text, n, k);
+        need(same_segment(g, h), "a segment of the sheet is that of its text");
+        if (g.refused != 0) {
+            need(refused_segment(g, 15, 0), "past the last segment: 15");
+            break;
+        }
+        if (k > 0) *out++ = ' ';
+        out = segment_text(out, g);
+        need(out < made + TEXT, "too long a text");
+    }
+    need(k == 5u * s.count + 2u * s.drawn, "five segments a box, two a curve");
+    need(counted(margalhosa_text_count(text, n), 0, 0, k), "the text's count of segments");
+    need((size_t)(out - made) == n && memcmp(made, text, n) == 0, "the text is that of the segments");
+    need(refused_segment(margalhosa_segment(s, UINT32_MAX), 15, 0), "the largest segment number: 15");
+}
+
+/* The texts of given node k, in order: those of its sources, its lines and its sinks, an empty one only if it is a line. */
+static uint32_t given_texts(const uint8_t *chart, uint32_t k, size_t begin[], uint32_t length[]) {
+    size_t at = chart[2 + 2 * k] + 256u * chart[3 + 2 * k];
+    const uint8_t *counts = chart + at;
+    uint32_t many = 0;
+    at += 3;
+    for (int list = 0; list < 3; list++)
+        for (uint32_t i = 0; i < counts[list]; i++) {
+            if (list != 1) at++;
+            uint32_t len = chart[at++];
+            if (list == 1 || len > 0) {
+                begin[many] = at;
+                length[many++] = len;
+            }
+            at += len;
+        }
+    return many;
+}
+
+static void check_labels(const uint8_t *chart, size_t n, margalhosa_sheet_record s) {
+    const size_t size = MARGALHOSA_TABLE_LENGTH;
+    for (uint32_t k = 0; k < s.count; k++) {
+        size_t begin[68];
+        uint32_t length[68], given = k < chart[1], many = given ? given_texts(chart, k, begin, length) : 1;
+        for (uint32_t i = 0; i < many; i++) {
+            margalhosa_label_result l = margalhosa_label_place(chart, n, 0, 0, table, size, k, i);
+            margalhosa_part_result p = margalhosa_label_part(chart, n, 0, 0, table, size, k, i);
+            need(l.refused == 0 && l.second == 0 && p.refused == 0 && p.second == 0, "a label is there");
+            need((uint64_t)p.at + p.len <= (p.fixed ? size : n), "a label's text is a part");
+            const uint8_t *part = (p.fixed ? table : chart) + p.at;
+            for (uint32_t b = 0; b < p.len; b++) need(part[b] >= 32 && part[b] <= 126, "a label's text is printable");
+            if (given)
+                need(p.fixed == 0 && p.at == begin[i] && p.len == length[i], "a given node's label is its text in the chart");
+            else
+                need(p.fixed == 1 && part[0] == '#' && (uint32_t)atoi((const char *)part + 1) < chart[1] && p.len == (p.at < 20 ? 2 : 3),
+                     "an inserted node's label is a fixed text");
+            need((l.size == 464 && l.width == 256 * p.len) || (l.size == 232 && l.width == 128 * p.len), "a label's size and width");
+            need(no_label(chart, n, 0, table, size - 1, k, i, 15, 0), "a table that isn't the fixed texts: 15");
+        }
+        need(no_label(chart, n, 0, table, size, k, many, 15, 0), "a label that isn't there: 15");
+    }
+    need(no_label(chart, n, 0, table, size, s.count, 0, 15, 0), "a label of a box that isn't there: 15");
+    need(no_label(chart, n, 0, table, size, UINT32_MAX, UINT32_MAX, 15, 0), "the largest label number: 15");
+}
+
+/* A sheet built by a caller. */
+static void check_built(margalhosa_sheet_record s) {
+    static uint8_t buffer[TEXT];
+    mark(buffer, TEXT);
+    need(refused_box(margalhosa_box(s, 0), 14), "a built sheet's box: 14");
+    need(refused_segment(margalhosa_segment(s, 0), 14, 0), "a built sheet's segment: 14");
+    need(counted(margalhosa_text(s, buffer, TEXT), 14, 0, 0) && marked(buffer, TEXT), "a built sheet's text: 14");
+}
+
+static void check_origin(const uint8_t *chart, size_t n, margalhosa_sheet_record s) {
+    uint32_t x = LIMIT - s.width, y = LIMIT - s.height;
+    margalhosa_sheet_result r = margalhosa_sheet(chart, n, x, y);
+    need(r.refused == 0 && r.sheet.x == x && r.sheet.y == y && r.sheet.count == s.count, "a sheet at the last origin");
+    for (uint32_t k = 0; k < s.count; k++) need(same_box(r.sheet.boxes[k], s.boxes[k]), "the origin is not added to a box");
+    r = margalhosa_sheet(chart, n, x + 1, y);
+    need(r.refused == 14 && r.second == 0 && no_sheet(&r.sheet), "an origin too far across: 14");
+    r = margalhosa_sheet(chart, n, x, UINT32_MAX);
+    need(r.refused == 14 && r.second == 0 && no_sheet(&r.sheet), "an origin too far down: 14");
+    need(no_label(chart, n, x + 1, table, 0, 0, 0, 14, 0), "a label at an origin too far: 14 before 15");
+}
+
+/* ---- a chart's listing */
+static void drawn(const uint8_t *chart, size_t n, margalhosa_sheet_record s) {
+    static uint8_t text[TEXT];
+    printf("sheet %u %u %u %u %u %u\n", s.columns, s.rows, s.width, s.height, s.count, s.cuts);
+    for (uint32_t k = 0; k < s.count; k++) {
+        margalhosa_box_result b = margalhosa_box(s, k);
+        need(b.refused == 0 && b.second == 0 && same_box(b.place, s.boxes[k]), "a box of a sheet");
+        printf("box %u %u %u %u %u %u %u\n", k, b.place.column, b.place.row, b.place.x, b.place.y, b.place.width, b.place.height);
+    }
+    need(refused_box(margalhosa_box(s, s.count), 15) && refused_box(margalhosa_box(s, UINT32_MAX), 15), "a box that isn't there: 15");
+    size_t size = check_text(s, text);
+    printf("path%s%.*s\n", size > 0 ? " " : "", (int)size, (const char *)text);
+    check_segments(s, text, size);
+    check_labels(chart, n, s);
+    check_origin(chart, n, s);
+    margalhosa_sheet_record wrong = s;
+    wrong.count = 49;
+    check_built(wrong);
+    wrong = s;
+    wrong.drawn = 89;
+    check_built(wrong);
+    wrong = s;
+    wrong.count = 1;
+    wrong.boxes[0].width = UINT32_MAX;
+    check_built(wrong);
+}
+
+/* A refused chart's sheet is empty, and the functions of a sheet take it as one. */
+static void refused(const uint8_t *chart, size_t n, margalhosa_sheet_result r) {
+    static uint8_t text[TEXT];
+    printf("refused %u %u\n", r.refused, r.second);
+    need(r.refused <= 14 && no_sheet(&r.sheet), "a refused sheet's fields are 0");
+    need(refused_box(margalhosa_box(r.sheet, 0), 15), "a box of a refused sheet: 15");
+    size_t size = check_text(r.sheet, text);
+    need(size == 0, "the text of a refused sheet is empty");
+    check_segments(r.sheet, text, size);
+    need(no_label(chart, n, 0, table, MARGALHOSA_TABLE_LENGTH, 0, 0, r.refused, r.second), "a label of a refused chart: its refusal");
+    need(no_label(chart, n, 0, table, 0, 0, 0, r.refused, r.second), "a label of a refused chart, no table: its refusal");
+}
+
+/* ---- path texts that are refused */
+static void check_reader(const char *text, uint32_t number, uint64_t second) {
+    static uint8_t buffer[64];
+    const uint8_t *t = (const uint8_t *)text;
+    size_t n = strlen(text);
+    mark(buffer, sizeof buffer);
+    need(counted(margalhosa_text_count(t, n), number, second, 0), text);
+    need(refused_segment(margalhosa_text_segment(t, n, 0), number, second), text);
+    need(counted(margalhosa_rewrite(t, n, buffer, 0), number, second, 0), text);
+    need(counted(margalhosa_rewrite(t, n, buffer, sizeof buffer), number, second, 0) && marked(buffer, sizeof buffer), text);
+}
+
+/* ---- the list */
+static int digit(int c) { return c >= '0' && c <= '9' ? c - '0' : c >= 'a' && c <= 'f' ? c - 'a' + 10 : -1; }
+
+/* The bytes of the next line, the first CHART of them; 0 at the end of the list. */
+static int next_chart(uint8_t *chart, size_t *n) {
+    int c = getchar();
+    if (c == EOF) return 0;
+    for (*n = 0; c != '\n' && c != EOF; c = getchar()) {
+        int high = digit(c), low = digit(getchar());
+        need(high >= 0 && low >= 0, "the list is not hexadecimal");
+        if (*n < CHART) chart[(*n)++] = (uint8_t)(16 * high + low);
+    }
+    return 1;
+}
+
+int main(void) {
+    static uint8_t chart[CHART];
+    size_t n;
+    check_reader("M 1.5 08", 17, 7);
+    check_reader("M 1", 17, 3);
+    check_reader("M 8388609 1", 18, 2);
+    check_reader("Z", 19, 0);
+    while (next_chart(chart, &n)) {
+        margalhosa_sheet_result r = margalhosa_sheet(chart, n, 0, 0);
+        if (r.refused == 0) {
+            need(r.second == 0, "a sheet's second number");
+            drawn(chart, n, r.sheet);
+        } else {
+            refused(chart, n, r);
+        }
+        printf("\n");
+        charts++;
+    }
+    need(fflush(stdout) == 0 && !ferror(stdin), "the list is read and the listing written");
+    fprintf(stderr, "%lu charts, every function called\n", charts);
+    return 0;
+}

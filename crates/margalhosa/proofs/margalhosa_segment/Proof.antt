@@ -1,0 +1,16 @@
+-- `margalhosa_segment`: the answer of `path::sheet_segment`. Assumes nothing.
+use borrow.Author.Needs.{needs}
+use Rattle.margalhosa.proofs.margalhosa_segment.Statement.{statement}
+use Rattle.margalhosa.proofs.margalhosa_segment.Tie as tie
+
+sheet-segment-requires : tie.Need-sheet-segment-requires
+sheet-segment-requires c κs = search needs
+
+given-requires : tie.Need-given-requires
+given-requires c κs = search needs
+
+returns : tie.Need-returns
+returns c = rw (c .given .ensures, c .before .sheet-segment .ensures)
+
+pub margalhosa-segment-spec : {M : Type 1} → statement M
+margalhosa-segment-spec = tie.close (tie.spec sheet-segment-requires given-requires returns)

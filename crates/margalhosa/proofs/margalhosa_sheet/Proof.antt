@@ -1,0 +1,24 @@
+-- `margalhosa_sheet`: the answer of `grid::sheet`, with its box theorem. Assumes nothing.
+use Rattle.margalhosa.proofs.Results.{sheet-is}
+use borrow.Author.Needs.{needs}
+use Rattle.margalhosa.proofs.margalhosa_sheet.Statement.{statement}
+use Rattle.margalhosa.proofs.margalhosa_sheet.Tie as tie
+
+sheet-requires : tie.Need-sheet-requires
+sheet-requires c κs = search needs
+
+first-of-requires : tie.Need-first-of-requires
+first-of-requires c κs = search needs
+
+second-of-requires : tie.Need-second-of-requires
+second-of-requires c κs = search needs
+
+returns : tie.Need-returns
+returns c =
+    let h = c .before .before .before in
+    let a = h .before .before .args in
+    sheet-is (a .chart .now) (a .x) (a .y) (h .sheet .result) (h .sheet .ensures) (c .before .first-of .result) (c .second-of .result) (c .before .first-of .ensures) (c .second-of .ensures)
+
+pub margalhosa-sheet-spec : {M : Type 1} → statement M
+margalhosa-sheet-spec =
+    tie.close (tie.spec sheet-requires first-of-requires second-of-requires returns)

@@ -1,0 +1,16 @@
+-- `margalhosa_text_count`: the answer of `path::text_count`. Assumes nothing.
+use borrow.Author.Needs.{needs}
+use Rattle.margalhosa.proofs.margalhosa_text_count.Statement.{statement}
+use Rattle.margalhosa.proofs.margalhosa_text_count.Tie as tie
+
+text-count-requires : tie.Need-text-count-requires
+text-count-requires c κs = search needs
+
+counted-requires : tie.Need-counted-requires
+counted-requires c κs = search needs
+
+returns : tie.Need-returns
+returns c = rw (c .counted .ensures, c .before .text-count .ensures)
+
+pub margalhosa-text-count-spec : {M : Type 1} → statement M
+margalhosa-text-count-spec = tie.close (tie.spec text-count-requires counted-requires returns)

@@ -1,0 +1,2 @@
+-- What is promised to firmware in C.
+pub mod Results

@@ -1,0 +1,102 @@
+-- What the functions for C answer, by what the operations of document 01 do: its two numbers of the refusal, 0 0 where nothing is refused, and the value.
+-- Assumes nothing.
+use Prim.Native.Nat.{ℕ}
+use mathlib.Core.Path.{_≡_}
+use mathlib.Core.Bool.{cond}
+use mathlib.Core.List.{List}
+use lib.ListN.{getD}
+use lib.Ieee.{binary32, ofBits}
+use Rattle.chart.specs.declared.Answer.the-variants.{Ready}
+use Rattle.chart.specs.Read.{Numbers, numbersOf}
+use Rattle.graph.specs.Graphed.{Dag, ready as cut, graphed}
+use Rattle.grid.specs.declared.Outcome.{Outcome}
+use Rattle.grid.specs.declared.BoxAnswer.{BoxAnswer}
+use Rattle.grid.specs.Sheeted.{sheeted, outcomeOf}
+use Rattle.grid.specs.BoxTheorem.{BoxTheorem}
+use Rattle.path.specs.declared.Pen.{Pen}
+use Rattle.path.specs.declared.Segment.{Segment}
+use Rattle.path.specs.declared.Segment.the-variants.{Move, Line, Cubic, Close}
+use Rattle.path.specs.declared.Given.{Given}
+use Rattle.path.specs.declared.Given.the-variants.{Drawn, Refused as Given·Refused}
+use Rattle.path.specs.declared.Counted.{Counted}
+use Rattle.path.specs.declared.Counted.the-variants.{Segments, Refused as Count·Refused}
+use Rattle.path.specs.declared.Written.{Written}
+use Rattle.path.specs.declared.Written.the-variants.{Done, Refused}
+use Rattle.path.specs.declared.LabelAnswer.{LabelAnswer}
+use Rattle.path.specs.declared.LabelSpan.{LabelSpan}
+use Rattle.path.specs.Answers.{givenNumbers, countNumbers, writtenNumbers}
+use Rattle.margalhosa.specs.declared.SheetResult.{SheetResult}
+use Rattle.margalhosa.specs.declared.BoxResult.{BoxResult}
+use Rattle.margalhosa.specs.declared.SegmentResult.{SegmentResult}
+use Rattle.margalhosa.specs.declared.CountResult.{CountResult}
+use Rattle.margalhosa.specs.declared.LabelResult.{LabelResult}
+use Rattle.margalhosa.specs.declared.PartResult.{PartResult}
+
+-- ---- a sheet and its boxes
+abbrev pub sheetResult : Outcome → SheetResult
+sheetResult o = record { refused = numbersOf (o .answer) .first; second = numbersOf (o .answer) .second; sheet = o .sheet }
+
+-- what `margalhosa_sheet` promises, for every byte string s and every origin x y
+pub record IsSheetResult (s : List ℕ) (x y : ℕ) (r : SheetResult) : Type 0 where
+  -- every field of the answer is the definition's
+  pub whole : r ≡ sheetResult (outcomeOf x y (sheeted s x y))
+  -- 0 is no refusal's number: the sheet is drawn (of the other results: proofs/Zeros.antt)
+  pub drawn : r .refused ≡ 0 → outcomeOf x y (sheeted s x y) ≡ record { answer = Ready; sheet = r .sheet }
+  -- the box theorem of the sheet itself: byte 1 is the number of nodes, d the graph that the walk cut
+  pub boxes : (d : Dag) → graphed s ≡ cut d → r .refused ≡ 0 → BoxTheorem (getD s 1 0) (d .cuts) (d .graph) (r .sheet)
+
+abbrev pub boxResult : BoxAnswer → BoxResult
+boxResult b = record { refused = numbersOf (b .answer) .first; second = numbersOf (b .answer) .second; place = b .place }
+
+-- ---- a segment
+-- a position that a segment doesn't have: 0.0 0.0
+abbrev pub noPen : Pen
+noPen = record { x = ofBits binary32 0; y = ofBits binary32 0 }
+
+abbrev pub segmentBy : Numbers → ℕ → Pen → Pen → Pen → SegmentResult
+segmentBy n kind a b p = record { refused = n .first; kind = kind; second = n .second; control0 = a; control1 = b; to = p }
+
+-- 'A segment is a move, a line, a cubic or a close': kinds 0 to 3
+abbrev pub segmentIn : Numbers → Segment → SegmentResult
+segmentIn n (Move p) = segmentBy n 0 noPen noPen p
+segmentIn n (Line p) = segmentBy n 1 noPen noPen p
+segmentIn n (Cubic a b p) = segmentBy n 2 a b p
+segmentIn n Close = segmentBy n 3 noPen noPen noPen
+
+abbrev pub segmentResult : Given → SegmentResult
+segmentResult (Drawn g) = segmentIn (givenNumbers (Drawn g)) g
+segmentResult (Given·Refused n p) = segmentBy (givenNumbers (Given·Refused n p)) 0 noPen noPen noPen
+
+-- ---- counts: of the bytes written, of the segments of a text
+abbrev pub countBy : Numbers → ℕ → CountResult
+countBy n count = record { refused = n .first; second = n .second; count = count }
+
+abbrev pub writtenResult : Written → CountResult
+writtenResult (Done n) = countBy (writtenNumbers (Done n)) n
+writtenResult (Refused n p) = countBy (writtenNumbers (Refused n p)) 0
+
+abbrev pub countResult : Counted → CountResult
+countResult (Segments n) = countBy (countNumbers (Segments n)) n
+countResult (Count·Refused n p) = countBy (countNumbers (Count·Refused n p)) 0
+
+-- ---- labels
+abbrev pub labelResult : LabelAnswer → LabelResult
+labelResult l =
+    record {
+      refused = numbersOf (l .answer) .first;
+      second = numbersOf (l .answer) .second;
+      x = l .x;
+      y = l .y;
+      size = l .size;
+      width = l .width;
+    }
+
+abbrev pub partResult : LabelSpan → PartResult
+partResult l =
+    record {
+      refused = numbersOf (l .answer) .first;
+      second = numbersOf (l .answer) .second;
+      fixed = cond (l .fixed) 1 0;
+      at = l .at;
+      len = l .len;
+    }

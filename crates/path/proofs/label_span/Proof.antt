@@ -1,0 +1,92 @@
+-- `label_span`: the numbers of `find_label`'s place, or of `stand_in`'s, by the laws of `LabelCalls`.
+-- Assumes nothing.
+use native.Mathlib.Omega.{arith}
+use Rattle.grid.specs.Labelled.{labelled}
+use Rattle.path.specs.Label.{tabled}
+use Rattle.path.proofs.LabelCalls.{number-small, span-fits, fixed-span, given-span, refused-span}
+use borrow.Author.Needs.{needs}
+use Rattle.path.proofs.label_span.Statement.{statement}
+use Rattle.path.proofs.label_span.Tie as tie
+
+find-label-requires : tie.Need-find-label-requires
+find-label-requires c κs = search needs
+
+enum-told : tie.Need-enum-told
+enum-told c = search needs
+
+stand-in-requires : tie.Need-stand-in-requires
+stand-in-requires c κs =
+    let h = c .before .before .before .before in
+    let a = h .before .before .before .args in
+    number-small (a .chart .now) (a .table .now) (a .x) (a .y) (a .k) (a .i) (h .find-label .result) (h .find-label .ensures) (c .before .enum-told .given .1) (c .if1 .taken)
+
+cast-t15 : tie.Need-cast-t15
+cast-t15 c =
+    let i = c .before .before in
+    let h = i .before .before .before .before in
+    let a = h .before .before .before .args in
+    let w = span-fits (a .chart .now) (a .table .now) (a .x) (a .y) (a .k) (a .i) (h .find-label .result) (h .find-label .ensures) (i .before .enum-told .given .1) (i .if1 .taken) (c .before .stand-in .result) (c .before .stand-in .ensures) in
+    omega (arith, w .0, w .1)
+
+sub-t16 : tie.Need-sub-t16
+sub-t16 c =
+    let i = c .before .before .before in
+    let h = i .before .before .before .before in
+    let a = h .before .before .before .args in
+    let w = span-fits (a .chart .now) (a .table .now) (a .x) (a .y) (a .k) (a .i) (h .find-label .result) (h .find-label .ensures) (i .before .enum-told .given .1) (i .if1 .taken) (c .before .before .stand-in .result) (c .before .before .stand-in .ensures) in
+    w .0
+
+cast-t17 : tie.Need-cast-t17
+cast-t17 c =
+    let i = c .before .before .before in
+    let h = i .before .before .before .before in
+    let a = h .before .before .before .args in
+    let w = span-fits (a .chart .now) (a .table .now) (a .x) (a .y) (a .k) (a .i) (h .find-label .result) (h .find-label .ensures) (i .before .enum-told .given .1) (i .if1 .taken) (c .before .before .stand-in .result) (c .before .before .stand-in .ensures) in
+    omega (arith, w .1)
+
+returns : tie.Need-returns
+returns c =
+    let i = c .before .before .before in
+    let h = i .before .before .before .before in
+    let a = h .before .before .before .args in
+    fixed-span (a .chart .now) (a .table .now) (a .x) (a .y) (a .k) (a .i) (h .find-label .result) (h .find-label .ensures) (i .before .enum-told .given .1) (i .if1 .taken) (c .before .before .stand-in .result) (c .before .before .stand-in .ensures)
+
+cast-t19 : tie.Need-cast-t19
+cast-t19 c = search needs
+
+cast-t20 : tie.Need-cast-t20
+cast-t20 c = search needs
+
+returns-2 : tie.Need-returns-2
+returns-2 c =
+    let i = c .before .before in
+    let h = i .before .before .before .before in
+    let a = h .before .before .before .args in
+    given-span (a .chart .now) (a .table .now) (a .x) (a .y) (a .k) (a .i) (h .find-label .result) (h .find-label .ensures) (i .before .enum-told .given .1) (i .if1 .left)
+
+enum-known-answer : tie.Need-enum-known-answer
+enum-known-answer c = search needs
+
+returns-3 : tie.Need-returns-3
+returns-3 c =
+    let h = c .before .before .before .before in
+    let a = h .before .before .before .args in
+    let q = c .before .answer .given in
+    refused-span (tabled (a .table .now) (labelled (a .chart .now) (a .x) (a .y) (a .k) (a .i))) (h .find-label .result) (q .0 .0) (q .0 .1 .0) (h .find-label .ensures) (q .1)
+
+pub label-span-spec : {M : Type 1} → statement M
+label-span-spec =
+    tie.close
+    (tie.spec
+    find-label-requires
+    enum-told
+    stand-in-requires
+    cast-t15
+    sub-t16
+    cast-t17
+    returns
+    cast-t19
+    cast-t20
+    returns-2
+    enum-known-answer
+    returns-3)

@@ -1,0 +1,137 @@
+/* Margalhosa for firmware in C: a chart's wiring sheet, its boxes, segments, path text and labels.
+
+   Link target/staticlib/libmargalhosa.a (`rt staticlib margalhosa`; it wants memcpy, memmove and memset).
+   Each function is proved to meet its contract in crates/margalhosa/src/lib.rt, for every input; "1 to 14" below
+   are the refusals of document 01. In each result `refused` is the refusal's number, 0 if nothing is refused, and
+   `second` its second number. The functions keep nothing between calls and write nothing but the lent buffer.
+
+   The caller owes: a pointer is not null, also where the length is 0, and its bytes are there; a buffer that is
+   lent for writing overlaps no other argument. Everything else is judged, a sheet that the caller made too. */
+#ifndef MARGALHOSA_H
+#define MARGALHOSA_H
+
+#include <stddef.h>
+#include <stdint.h>
+
+#ifdef __cplusplus
+extern "C" {
+#endif
+
+/* The stand-in table, which the label functions are lent: the texts #0 to #31, end to end. */
+#define MARGALHOSA_TABLE "#0#1#2#3#4#5#6#7#8#9#10#11#12#13#14#15#16#17#18#19#20#21#22#23#24#25#26#27#28#29#30#31"
+#define MARGALHOSA_TABLE_LENGTH (sizeof MARGALHOSA_TABLE - 1)
+
+/* The kinds of segment. */
+enum { MARGALHOSA_MOVE = 0, MARGALHOSA_LINE = 1, MARGALHOSA_CUBIC = 2, MARGALHOSA_CLOSE = 3 };
+
+/* A box: its top left corner, its width and its height, and the column and row of its cell. */
+typedef struct {
+    uint32_t x, y, width, height;
+    uint8_t column, row;
+} margalhosa_box_record;
+
+/* A curve: the output point x0 y0 where it begins, and the input point x1 y1 where it ends. */
+typedef struct {
+    uint32_t x0, y0, x1, y1;
+} margalhosa_curve;
+
+/* A sheet: its size, its origin, how many columns, rows and cuts it has; the first `count` boxes, and the first
+   `drawn` curves. The origin is not added in boxes and curves. */
+typedef struct {
+    uint32_t width, height, x, y;
+    uint8_t columns, rows, cuts, count, drawn;
+    margalhosa_box_record boxes[48];
+    margalhosa_curve curves[88];
+} margalhosa_sheet_record;
+
+/* A pen position, whole or a half, never rounded. */
+typedef struct {
+    float x, y;
+} margalhosa_pen;
+
+/* Refused, every field of the sheet is 0. */
+typedef struct {
+    uint32_t refused, second;
+    margalhosa_sheet_record sheet;
+} margalhosa_sheet_result;
+
+/* Refused, every field of the box is 0. */
+typedef struct {
+    uint32_t refused, second;
+    margalhosa_box_record place;
+} margalhosa_box_result;
+
+/* A move or a line goes to `to`, a cubic goes there by its two controls; the other positions are 0, and refused all. */
+typedef struct {
+    uint32_t refused, kind;
+    uint64_t second;
+    margalhosa_pen control0, control1, to;
+} margalhosa_segment_result;
+
+/* How many bytes were written, or how many segments a text has; refused, 0. */
+typedef struct {
+    uint32_t refused;
+    uint64_t second, count;
+} margalhosa_count_result;
+
+/* A label's place (the origin is not added), its size and its width; refused, all 0. */
+typedef struct {
+    uint32_t refused, second;
+    uint32_t x, y, size, width;
+} margalhosa_label_result;
+
+/* A label's text: the `len` bytes from `at` on, of the table if `fixed` is 1, of the chart if it is 0; refused, all 0. */
+typedef struct {
+    uint32_t refused, second;
+    uint32_t fixed, at, len;
+} margalhosa_part_result;
+
+/* The sheet of a chart at the origin x y: 1 to 14. */
+margalhosa_sheet_result margalhosa_sheet(const uint8_t *chart, uint64_t chart_length, uint32_t x, uint32_t y);
+
+/* Box k of a sheet: 14, 15. */
+margalhosa_box_result margalhosa_box(margalhosa_sheet_record sheet, uint32_t k);
+
+/* Segment k of a sheet, the origin added: 14, 15. */
+margalhosa_segment_result margalhosa_segment(margalhosa_sheet_record sheet, uint32_t k);
+
+/* The whole path text of a sheet, written at the buffer's start: 14, 16 (second: the length needed). The other bytes
+   of the buffer keep their content, and refused all do. No byte 0 is added. */
+margalhosa_count_result margalhosa_text(margalhosa_sheet_record sheet, uint8_t *buffer, uint64_t buffer_length);
+
+/* Where label i of box k of the chart's sheet stands, its size and its width: 1 to 15. */
+margalhosa_label_result margalhosa_label_place(const uint8_t *chart, uint64_t chart_length, uint32_t x, uint32_t y,
+                                               const uint8_t *table, uint64_t table_length, uint32_t k, uint32_t i);
+
+/* The text of that label: 1 to 15. */
+margalhosa_part_result margalhosa_label_part(const uint8_t *chart, uint64_t chart_length, uint32_t x, uint32_t y,
+                                             const uint8_t *table, uint64_t table_length, uint32_t k, uint32_t i);
+
+/* How many segments a path text has: 17 to 19. */
+margalhosa_count_result margalhosa_text_count(const uint8_t *text, uint64_t text_length);
+
+/* Segment k of a path text: 17 to 19, then 15. */
+margalhosa_segment_result margalhosa_text_segment(const uint8_t *text, uint64_t text_length, uint32_t k);
+
+/* A path text read and written again, at the buffer's start: 17 to 19, then 16, as margalhosa_text. */
+margalhosa_count_result margalhosa_rewrite(const uint8_t *text, uint64_t text_length, uint8_t *buffer, uint64_t buffer_length);
+
+#ifdef __cplusplus
+}
+#elif defined(__STDC_VERSION__) && __STDC_VERSION__ >= 201112L
+_Static_assert(MARGALHOSA_TABLE_LENGTH == 86, "the stand-in table");
+_Static_assert(sizeof(margalhosa_box_record) == 20, "a box");
+_Static_assert(sizeof(margalhosa_curve) == 16, "a curve");
+_Static_assert(sizeof(margalhosa_sheet_record) == 2392, "a sheet");
+_Static_assert(offsetof(margalhosa_sheet_record, boxes) == 24, "a sheet's boxes");
+_Static_assert(offsetof(margalhosa_sheet_record, curves) == 984, "a sheet's curves");
+_Static_assert(sizeof(margalhosa_pen) == 8, "a pen position");
+_Static_assert(sizeof(margalhosa_sheet_result) == 2400, "a sheet's result");
+_Static_assert(sizeof(margalhosa_box_result) == 28, "a box's result");
+_Static_assert(sizeof(margalhosa_segment_result) == 40, "a segment's result");
+_Static_assert(sizeof(margalhosa_count_result) == 24, "a count's result");
+_Static_assert(sizeof(margalhosa_label_result) == 24, "a label's result");
+_Static_assert(sizeof(margalhosa_part_result) == 20, "a part's result");
+#endif
+
+#endif
