@@ -8,7 +8,7 @@ use mathlib.Core.Bool.{Bool, true, false, cond, _&&_}
 use mathlib.Core.List.{List, [], _∷_, _++_, map}
 use lib.Dec.{ltb}
 use lib.ListN.{length, getD, take, drop, replicate, length-append, length-map, List·getD-map}
-use lib.Seq.{getD-take}
+use lib.Seq.{getD-take, take-at}
 use borrow.Author.Tests.{ltb-true, ltb-false, le-leb}
 use Rattle.laws.specs.Lists.{All, padded}
 use Rattle.laws.proofs.Lists.{all-made, getD-padded, take-padded}
@@ -27,13 +27,12 @@ use Rattle.graph.specs.Laws.{Aimed, Laws}
 use Rattle.graph.proofs.Gathers.{graph-laws}
 use Rattle.graph.proofs.Cuts.{length-graph}
 use Rattle.graph.proofs.EndsLaws.{shape-held, sources-long, sinks-long}
-use Rattle.order.specs.declared.Outcome.{Outcome as Ordering}
 use Rattle.order.specs.Chains.{columns as firstColumns}
 use Rattle.order.specs.Claims.{Under, Aimed as Led, EachOnce}
-use Rattle.order.specs.Ordered.{ready as columned, ordered, outcomeOf as orderedOf, IsOrder}
+use Rattle.order.specs.Ordered.{columnsIn}
 use Rattle.order.proofs.Nodes.{each-once}
 use Rattle.order.proofs.Pushed.{shape-size}
-use Rattle.order.proofs.Graphs.{sources-linked, sinks-linked, size}
+use Rattle.order.proofs.Graphs.{columns-in, columns-each, sources-linked, sinks-linked, size}
 use Rattle.grid.specs.declared.BoxRecord.{BoxRecord}
 use Rattle.grid.specs.declared.SheetRecord.{SheetRecord}
 use Rattle.grid.specs.Heights.{heights}
@@ -49,7 +48,7 @@ use Rattle.grid.specs.Record.{noBox, noSheet}
 use Rattle.grid.specs.Curves.{boxRecord, recordOf}
 use Rattle.grid.specs.Cells.{cellAt, cellsIn, Named, Apart}
 use Rattle.grid.specs.SheetTheorem.{SheetTheorem, noBox as noBoxed, box as boxIn}
-use Rattle.grid.specs.Sheeted.{ready, refusal, within, fitted, sheetOfDag, sheeted, outcomeOf, fittedOf}
+use Rattle.grid.specs.Sheeted.{ready, refusal, within, fitted, sheetOfDag, sheeted, outcomeOf, fittedOf, arrangedOf}
 use Rattle.grid.specs.BoxTheorem.{box, cell, Names, Across, Down, BoxTheorem, IsSheet}
 use Rattle.grid.proofs.HeightLaws.{heights-long}
 use Rattle.grid.proofs.ColumnLaws.{first-placed, columns-placed}
@@ -161,47 +160,35 @@ module _ (n cuts : ℕ) (g : Graph) (sh : Sheet) (t : SheetTheorem n cuts g sh) 
       }
 
 -- ---- what the lower crates promise
-module _ (s : List ℕ) (o : Ordering) (q : IsOrder s o) (w : Graphing) (a : IsGraph s w) (answered : w .answer ≡ Ready) where
+module _ (s : List ℕ) (w : Graphing) (a : IsGraph s w) (first : List ℕ) (f : first ≡ columnsIn (w .graph .n) (endsIn (w .graph .sources)) (endsIn (w .graph .sinks))) where
   abbrev t : Tables
   t = w .graph
 
   abbrev firsts : List ℕ
   firsts = firstColumns (shapeOf (graphOf t))
 
-  cut-is : graphed s ≡ cut (dagIn t)
-  cut-is = sym (a .graphs) ∙ rw answered
+  from : Linked (t .n) (endsIn (t .sources))
+  from = sources-linked t (sources-long s w a) (sinks-long s w a) (a .sound .linked)
 
-  ordered-is : ordered s ≡ columned firsts
-  unfolding ordered
-  ordered-is = rw cut-is
+  to : Linked (t .n) (endsIn (t .sinks))
+  to = sinks-linked t (sources-long s w a) (sinks-long s w a) (a .sound .linked)
 
-  once : EachOnce (length firsts) firsts
-  once = q .each firsts ordered-is
-
-  long : length firsts ≡ t .n
-  long = size t (sources-long s w a) (sinks-long s w a) (a .sound .linked)
-
-  few-nodes : t .n ≤ 48
-  few-nodes = a .sound .linked .nodes
-
-  columns-are : o .columns ≡ padded 48 0 firsts
-  columns-are = ap (λ (u : Ordering). u .columns) (q .whole ∙ ap orderedOf ordered-is)
+  once : EachOnce (t .n) (take (t .n) first)
+  once = rw f (columns-each (t .n) (endsIn (t .sources)) (endsIn (t .sinks)) from to)
 
   -- the first columns that the code hands on
-  pub first-is : take (t .n) (o .columns) ≡ firsts
+  pub first-is : take (t .n) first ≡ firsts
   first-is =
-      ap (take (t .n)) columns-are
-      ∙ ap (λ (k : ℕ). take k (padded 48 0 firsts)) (sym long)
-      ∙ take-padded 48 0 firsts (omega (arith, long, few-nodes))
+      ap (take (t .n)) (f ∙ columns-in (t .n) (endsIn (t .sources)) (endsIn (t .sinks)) from to ∙ ap (λ (g : Shape). firstColumns g ++ replicate (48 - t .n) 0) (shape-held t))
+      ∙ take-at firsts (replicate (48 - t .n) 0) (t .n) (size t (sources-long s w a) (sinks-long s w a) (a .sound .linked))
 
-  pub firsts-are : FirstColumns (t .n) (take (t .n) (o .columns))
+  pub firsts-are : FirstColumns (t .n) (take (t .n) first)
   firsts-are =
-      subst (λ (l : List ℕ). FirstColumns (t .n) l) (sym first-is)
-      (record {
-        long = long;
-        below = λ k h. let e = once .even k (omega (arith, long)) in omega (arith, e .1, e .2, long);
-        distinct = λ i j hi hj e. once .one i j (omega (arith, long)) (omega (arith, long)) e;
-      })
+      record {
+        long = once .size;
+        below = λ k h. let e = once .even k h in omega (arith, e .1, e .2);
+        distinct = λ i j hi hj e. once .one i j hi hj e;
+      }
 
   pub seated : Seated t
   seated = record { linked = a .sound .linked; line-room = a .sound .line-room }
@@ -273,6 +260,25 @@ fit-ready : (b : Bool) (sh : Sheet) (x y : ℕ) → outcomeOf x y (cond b (ready
 fit-ready true sh x y e = refl
 fit-ready false sh x y e = let z : _≡_ {A = ℕ} 0 1 = cc in absurd (omega arith)
 
+-- an answer's sheet, by whether it fits
+module _ (w : Graphing) (first : List ℕ) (x y : ℕ) (answered : w .answer ≡ Ready) (s : SheetRecord) (e : s ≡ recordOf (sheet (graphOf (w .graph)) (w .graph .cuts) (take (w .graph .n) first)) x y) where
+  at-x : s .x ≡ x
+  unfolding recordOf
+  at-x = ap (λ (r : SheetRecord). r .x) e
+
+  at-y : s .y ≡ y
+  unfolding recordOf
+  at-y = ap (λ (r : SheetRecord). r .y) e
+
+  arranged-is : fittedOf s ≡ arrangedOf w first x y
+  arranged-is = ap fittedOf e ∙ rw answered
+
+  pub arranged-fits : (within x (s .width) && within y (s .height)) ≡ true → record { answer = Ready; sheet = s } ≡ arrangedOf w first x y
+  arranged-fits b = let f : record { answer = Ready; sheet = s } ≡ fittedOf s = rw (at-x, at-y, b) in f ∙ arranged-is
+
+  pub arranged-past : (within x (s .width) && within y (s .height)) ≡ false → record { answer = Refused 14 0; sheet = noSheet } ≡ arrangedOf w first x y
+  arranged-past b = let f : record { answer = Refused 14 0; sheet = noSheet } ≡ fittedOf s = rw (at-x, at-y, b) in f ∙ arranged-is
+
 -- ---- what `sheet` promises
 module _ (s : List ℕ) (x y : ℕ) (w : Graphing) (a : IsGraph s w) where
   none-cut : {A : Type 0} (number second : ℕ) (d : Dag) → refused number second ≡ cut d → A
@@ -281,13 +287,13 @@ module _ (s : List ℕ) (x y : ℕ) (w : Graphing) (a : IsGraph s w) where
   same-dag : (d e : Dag) → cut d ≡ cut e → d ≡ e
   same-dag d e q = cc
 
-  pub sheet-refused : (number second : ℕ) → w .answer ≡ Refused number second → (r : Outcome) → r ≡ outcomeOf 0 0 (refusal number second) → IsSheet s x y r
+  sheet-refused : (number second : ℕ) → w .answer ≡ Refused number second → (r : Outcome) → r ≡ outcomeOf 0 0 (refusal number second) → IsSheet s x y r
   unfolding sheeted
   sheet-refused number second q r e =
       let g : graphed s ≡ refused number second = sym (a .graphs) ∙ rw q in
       record { whole = rw g e; boxes = λ d h k. none-cut number second d (sym g ∙ h) }
 
-  module _ (o : Ordering) (q : IsOrder s o) (answered : w .answer ≡ Ready) where
+  module _ (cs : List ℕ) (q : cs ≡ columnsIn (w .graph .n) (endsIn (w .graph .sources)) (endsIn (w .graph .sinks))) (answered : w .answer ≡ Ready) where
     abbrev g : Graph
     g = graphOf (w .graph)
 
@@ -306,7 +312,7 @@ module _ (s : List ℕ) (x y : ℕ) (w : Graphing) (a : IsGraph s w) where
     columned-first : FirstColumns (length g) first
     columned-first =
         subst (λ (k : ℕ). FirstColumns k first) (sym many)
-        (subst (λ (l : List ℕ). FirstColumns (w .graph .n) l) (first-is s o q w a answered) (firsts-are s o q w a answered))
+        (subst (λ (l : List ℕ). FirstColumns (w .graph .n) l) (first-is s w a cs q) (firsts-are s w a cs q))
 
     theorem : SheetTheorem (getD s 1 0) (w .graph .cuts) g drawing
     theorem = sheet-theorem g first columned-first (getD s 1 0) (w .graph .cuts) (laws .nodes ∙ ap (λ (n : ℕ). n + 2 * w .graph .cuts) (laws .given))
@@ -316,11 +322,11 @@ module _ (s : List ℕ) (x y : ℕ) (w : Graphing) (a : IsGraph s w) where
         boxed (getD s 1 0) (w .graph .cuts) g drawing theorem (omega (arith, theorem .one-each, laws .boxes))
         (columns-few g first columned-first (w .graph .cuts) (laws .boxes)) (rows-few g first columned-first (w .graph .cuts) (laws .boxes)) x y
 
-    pub sheet-ready : (r : Outcome) → r ≡ fittedOf (recordOf (sheet g (w .graph .cuts) (take (w .graph .n) (o .columns))) x y) → IsSheet s x y r
+    sheet-ready : (r : Outcome) → r ≡ fittedOf (recordOf (sheet g (w .graph .cuts) (take (w .graph .n) cs)) x y) → IsSheet s x y r
     unfolding sheeted sheetOfDag
     sheet-ready r e =
         let c : graphed s ≡ cut (dagIn (w .graph)) = sym (a .graphs) ∙ rw answered in
-        let f : r ≡ outcomeOf x y (fitted x y drawing) = e ∙ ap (λ (l : List ℕ). fittedOf (recordOf (sheet g (w .graph .cuts) l) x y)) (first-is s o q w a answered) ∙ fit-record drawing x y in
+        let f : r ≡ outcomeOf x y (fitted x y drawing) = e ∙ ap (λ (l : List ℕ). fittedOf (recordOf (sheet g (w .graph .cuts) l) x y)) (first-is s w a cs q) ∙ fit-record drawing x y in
         record {
           whole = rw c f;
           boxes = λ d h k.
@@ -328,6 +334,14 @@ module _ (s : List ℕ) (x y : ℕ) (w : Graphing) (a : IsGraph s w) where
               ap (λ (u : Outcome). u .sheet) f ∙ fit-ready (within x (drawing .width) && within y (drawing .height)) drawing x y (sym (ap (λ (u : Outcome). u .answer) f) ∙ k) in
               subst (λ (i : Dag). BoxTheorem (getD s 1 0) (i .cuts) (i .graph) (r .sheet)) (same-dag (dagIn (w .graph)) d (sym c ∙ h)) (rw m boxes-of);
         }
+
+  -- either way
+  pub sheet-is : (cs : List ℕ) → cs ≡ columnsIn (w .graph .n) (endsIn (w .graph .sources)) (endsIn (w .graph .sinks)) → (r : Outcome) → r ≡ arrangedOf w cs x y → IsSheet s x y r
+  sheet-is cs q r e = go (w .answer) refl
+    where
+      go : (b : Answer) → w .answer ≡ b → IsSheet s x y r
+      go Ready h = sheet-ready cs q h r (e ∙ rw h)
+      go (Refused number second) h = sheet-refused number second h r (e ∙ rw h)
 
 -- ---- at origin 0 0 no chart meets refusal 14
 under : (n : ℕ) (es : List Edge) → All (λ (e : Edge). e .to < n) es → Under n (targets es)

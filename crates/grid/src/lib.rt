@@ -1,12 +1,15 @@
 // Modules 6, 7 and 8 of document 01: heights, columns, boxes, and the sheet of a chart.
 ghost use mathlib.Core.Path.{_≡_};
+ghost use mathlib.Core.Bool.{_&&_};
 ghost use lib.ListN.{take};
 ghost use Rattle.graph.specs.Tables.{graphOf};
+ghost use Rattle.graph.specs.Ends.{endsIn};
+ghost use Rattle.order.specs.Ordered.{columnsIn};
 ghost use Rattle.grid.specs.Placed.{FirstColumns};
 ghost use Rattle.grid.specs.Rendered.{Seated};
 ghost use Rattle.grid.specs.RenderGrid.{sheet};
 ghost use Rattle.grid.specs.Curves.{recordOf};
-ghost use Rattle.grid.specs.Sheeted.{within as withinOf, refusal, outcomeOf, fittedOf};
+ghost use Rattle.grid.specs.Sheeted.{within as withinOf, refusal, outcomeOf, arrangedOf};
 ghost use Rattle.grid.specs.BoxTheorem.{IsSheet};
 ghost use Rattle.grid.specs.Labelled.{refusal as noPlace, labelled, labelOutcomeOf};
 use chart::Answer;
@@ -124,35 +127,58 @@ fn within(origin: u32, total: u32) -> bool
     (origin as u64) + (total as u64) <= 8388608
 }
 
-// Refusal 14.
-fn fit(s: SheetRecord) -> Outcome
-    ensures { λ r. ⌜ r ≡ fittedOf s ⌝ }
+// Whether a sheet of this size at the origin x y is not refused by 14.
+fn fits(x: u32, y: u32, width: u32, height: u32) -> bool
+    ensures { λ r. ⌜ r ≡ withinOf x width && withinOf y height ⌝ }
 {
-    if within(s.x, s.width) {
-        if within(s.y, s.height) {
-            return Outcome {
-                answer: Answer::Ready,
-                sheet: s,
-            };
-        }
-        return refused(14, 0);
+    if within(x, width) {
+        return within(y, height);
     }
-    refused(14, 0)
+    false
 }
 
-// The sheet of a chart at the origin x y, or the first refusal of 1 to 14.
-pub fn sheet(chart: &[u8], x: u32, y: u32) -> Outcome
-    ensures { λ r. ⌜ IsSheet (now (chart .entry)) x y r ⌝ }
+// The first columns of an answer's graph.
+fn first_in(r: graph::Outcome) -> [u8; 48]
+    ensures { λ cs. ⌜ cs ≡ columnsIn (r .graph .n) (endsIn (r .graph .sources)) (endsIn (r .graph .sinks)) ⌝ }
 {
-    let ordered = order::order(chart);
-    let first = ordered.columns;
-    let r = graph::graph(chart);
+    let g = r.graph;
+    let sources = g.sources;
+    let sinks = g.sinks;
+    order::order_of(graph::ends_of(sources), graph::ends_of(sinks), g.n)
+}
+
+// The sheet of an answer's graph with these first columns, at an origin; or its refusal, or 14.
+fn sheet_of(r: graph::Outcome, first: [u8; 48], x: u32, y: u32) -> Outcome
+    requires { ⌜ Seated (r .graph) ⌝ }
+    requires { ⌜ FirstColumns (r .graph .n) (take (r .graph .n) first) ⌝ }
+    ensures { λ z. ⌜ z ≡ arrangedOf r first x y ⌝ }
+{
     let answer = r.answer;
     let g = r.graph;
     match answer {
-        Answer::Ready => fit(lay_out(g, first, x, y)),
-        Answer::Refused(number, second) => refused(number, second),
+        Answer::Ready => {
+            let s = lay_out(g, first, x, y);
+            if fits(x, y, s.width, s.height) {
+                return Outcome {
+                    answer: Answer::Ready,
+                    sheet: s,
+                };
+            }
+            return refused(14, 0);
+        }
+        Answer::Refused(number, second) => {
+            return refused(number, second);
+        }
     }
+}
+
+// The sheet of a chart at the origin x y, or the first refusal of 1 to 14. (Its phases are called here and by label_place, and so have frames of their own.)
+pub fn sheet(chart: &[u8], x: u32, y: u32) -> Outcome
+    ensures { λ r. ⌜ IsSheet (now (chart .entry)) x y r ⌝ }
+{
+    let r = graph::graph(chart);
+    let first = first_in(r);
+    sheet_of(r, first, x, y)
 }
 
 // A refused label.
@@ -170,8 +196,9 @@ fn no_place(number: u8, second: u32) -> LabelOutcome
 pub fn label_place(chart: &[u8], x: u32, y: u32, k: usize, i: usize) -> LabelOutcome
     ensures { λ r. ⌜ r ≡ labelOutcomeOf (labelled (now (chart .entry)) x y k i) ⌝ }
 {
-    let laid = sheet(chart, x, y);
     let r = graph::graph(chart);
+    let first = first_in(r);
+    let laid = sheet_of(r, first, x, y);
     let s = laid.sheet;
     let answer = laid.answer;
     let g = r.graph;
