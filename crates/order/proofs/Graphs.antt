@@ -45,6 +45,7 @@ module _ (n : ℕ) (sources sinks : Ends) (l : EndsLinked n sources) (m : EndsLi
       let few : length cs ≤ 48 = omega (arith, size-in, l .nodes) in
       ap (λ (k : ℕ). cs ++ replicate (48 - k) 0) (sym size-in) ∙ sym (padded-is 48 0 cs few)
 
+  -- what `order_of` answers, and that each node has a column of its own
   pub columns-in : columnsIn n sources sinks ≡ columns (shapeFrom n sources sinks) ++ replicate (48 - n) 0
   unfolding columnsIn
   columns-in = rw (linked-yes n sources l, linked-yes n sinks m) (sym whole-in)
