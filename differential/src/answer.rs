@@ -16,7 +16,8 @@ fn text(bytes: &[u8]) -> String {
     String::from_utf8(bytes.to_vec()).expect("text bytes are 32 to 126")
 }
 
-fn arena(bodies: &[Body]) -> Arena<Node, DebugNode<Node>> {
+/// The arena of these bodies.
+pub fn arena(bodies: &[Body]) -> Arena<Node, DebugNode<Node>> {
     let ends = |ends: &[chart::End]| {
         ends.iter()
             .map(|end| (Node::from_number(end.target.into()), text(&end.text)))
@@ -79,7 +80,7 @@ fn segment(out: &mut String, letter: char, numbers: &[u64]) {
 }
 
 /// Document 01, module 9, on the Rust's boxes and points.
-fn path(boxes: &[(usize, usize, &RenderNode<Node>)], x: u32, y: u32) -> String {
+pub fn path(boxes: &[(usize, usize, &RenderNode<Node>)], x: u32, y: u32) -> String {
     let place = |(px, py): (i32, i32)| (2 * (px as u64 + x as u64), 2 * (py as u64 + y as u64));
     let mut out = String::new();
     for (_, _, node) in boxes {
@@ -130,6 +131,20 @@ fn details(boxes: &[(usize, usize, &RenderNode<Node>)]) -> String {
     out
 }
 
+/// The boxes by number, each with its column and row.
+pub fn boxes(grid: &RenderGrid<Node>) -> Vec<(usize, usize, &RenderNode<Node>)> {
+    let mut boxes = vec![];
+    for (column, cells) in grid.grid.iter().enumerate() {
+        for (row, cell) in cells.iter().enumerate() {
+            if let Some(node) = cell {
+                boxes.push((column, row, node));
+            }
+        }
+    }
+    boxes.sort_by_key(|(_, _, node)| node.ptr.inx());
+    boxes
+}
+
 fn sheet(grid: &RenderGrid<Node>, n: usize, asked: Asked) -> String {
     let count = grid.dag.len();
     let cuts = (count - n) / 2;
@@ -140,15 +155,7 @@ fn sheet(grid: &RenderGrid<Node>, n: usize, asked: Asked) -> String {
     if width + asked.x as u64 > MAX_POSITION || height + asked.y as u64 > MAX_POSITION {
         return Refusal(14, 0).line();
     }
-    let mut boxes = vec![];
-    for (column, cells) in grid.grid.iter().enumerate() {
-        for (row, cell) in cells.iter().enumerate() {
-            if let Some(node) = cell {
-                boxes.push((column, row, node));
-            }
-        }
-    }
-    boxes.sort_by_key(|(_, _, node)| node.ptr.inx());
+    let boxes = boxes(grid);
     assert!(boxes.iter().enumerate().all(|(k, b)| b.2.ptr.inx() == k));
     assert_eq!(boxes.len(), count);
     let (columns, rows) = (grid.grid.len(), grid.grid[0].len());
