@@ -5,6 +5,7 @@ pub mod ColumnLaws
 pub mod FoldLaws
 pub mod AverageLaws
 pub mod EndsLaws
+pub mod LeadLaws
 pub mod SignedLaws
 pub mod WalkLaws
 pub mod WalkSteps

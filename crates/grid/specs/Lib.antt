@@ -14,6 +14,7 @@ pub mod Labelled
 pub mod SheetTheorem
 pub mod BoxTheorem
 pub mod Arrays
+pub mod Leads
 pub mod Walk
 pub mod Rendered
 pub mod Laid

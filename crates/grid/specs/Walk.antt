@@ -6,15 +6,13 @@ use mathlib.Core.Bool.{Bool, true, false, cond}
 use lib.IntN.{ℤ, pos, negsuc, natAbs, _+ℤ_, _-ℤ_}
 use lib.Signed.{ltZ, leZ}
 use mathlib.Core.Option.{Option, none, some}
-use mathlib.Core.List.{List, [], _∷_, _++_, map}
-use lib.Dec.{eqb}
-use lib.ListN.{length, getD, take, drop}
-use Rattle.graph.specs.declared.Ends.{Ends}
-use Rattle.graph.specs.Shape.{Shape}
+use mathlib.Core.List.{List, [], _∷_, map}
+use lib.Dec.{ltb}
+use lib.ListN.{length, getD, take}
 use Rattle.laws.specs.Lists.{stackOf}
-use Rattle.grid.specs.declared.heights.Way.{Way}
 use Rattle.grid.specs.declared.heights.Frame.{Frame}
-use Rattle.grid.specs.declared.heights.Path.{Path}
+use Rattle.grid.specs.Columns.{at}
+use Rattle.grid.specs.Leads.{shapeIn}
 use Rattle.grid.specs.Heights.{Rows, walkFrom, leastRow}
 
 -- The code's walk starts at row 0, with signed rows; the definition's at n.
@@ -43,42 +41,8 @@ rowIn (suc r) = some r
 abbrev pub rowsOf : ℕ → List ℕ → Rows
 rowsOf n xs = map rowIn (take n xs)
 
-abbrev pub noWay : Way
-noWay = record { owner = 0; to = 0; up = false }
-
 abbrev pub noFrame : Frame
 noFrame = record { node = 0; row = pos 0; at = 0 }
-
--- records of one table
-abbrev pub waysFrom : Bool → List ℕ → List ℕ → List Way
-waysFrom b [] ts = []
-waysFrom b (o ∷ os) [] = []
-waysFrom b (o ∷ os) (t ∷ ts) = record { owner = o; to = t; up = b } ∷ waysFrom b os ts
-
-abbrev pub waysIn : Bool → Ends → List Way
-waysIn b e = waysFrom b (take (e .count) (e .owner)) (take (e .count) (e .to))
-
--- all sources, then all sinks
-unfoldable pub ways : Ends → Ends → List Way
-ways s k = waysIn true s ++ waysIn false k
-
--- record i is the first from a on that node p owns, if there is one
-pub record Next (ws : List Way) (p a i : ℕ) : Type 0 where
-  pub from : a ≤ i
-  pub none : (j : ℕ) → a ≤ j → j < i → j < length ws → getD ws j noWay .owner ≡ p → ⊥
-  pub own : i < length ws → getD ws i noWay .owner ≡ p
-
--- of one table: none from a up to i is p's; and i is, if there is one
-pub record OwnedUpto (e : Ends) (p a i : ℕ) : Type 0 where
-  pub from : a ≤ i
-  pub most : i ≤ a + e .count
-  pub none : (j : ℕ) → a ≤ j → j < i → j < e .count → getD (e .owner) j 0 ≡ p → ⊥
-
-pub record OwnedFrom (e : Ends) (p a i : ℕ) : Type 0 where
-  pub from : a ≤ i
-  pub most : i ≤ a + e .count
-  pub none : (j : ℕ) → a ≤ j → j < i → j < e .count → getD (e .owner) j 0 ≡ p → ⊥
-  pub own : i < e .count → getD (e .owner) i 0 ≡ p
 
 -- sources are a row above, sinks a row below; and so with signed rows
 abbrev pub rowBy : Bool → ℕ → ℕ
@@ -89,19 +53,21 @@ abbrev pub signedBy : Bool → ℤ → ℤ
 signedBy true z = z -ℤ pos 1
 signedBy false z = z +ℤ pos 1
 
-abbrev pub pick : Bool → Rows → Rows → Rows
-pick true v w = v
-pick false v w = w
+-- where the nodes lead
+module _ (n : ℕ) (to bounds : List ℕ) where
+  -- a node at this row looks at the next k places from i on; those below mid are its sources
+  abbrev pub visits : ℕ → ℕ → ℕ → ℕ → ℕ → Rows → Rows
+  visits zero d row mid i v = v
+  visits (suc k) d row mid i v = visits k d row mid (i + 1) (walkFrom d (shapeIn n to bounds) (rowBy (ltb i mid) row) v (at to i))
 
--- node p, at this row, goes through those of the ways that it owns
-abbrev pub visits : ℕ → Shape → ℕ → ℕ → Rows → List Way → Rows
-visits d g p row v [] = v
-visits d g p row v (w ∷ ws) = visits d g p row (pick (eqb (w .owner) p) (walkFrom d g (rowBy (w .up) row) v (w .to)) v) ws
+  -- the node of a frame looks at all that it has left
+  abbrev pub onward : ℕ → Frame → Rows → Rows
+  onward d f v = visits (at bounds (2 * f .node + 2) - f .at) d (raised n (f .row)) (at bounds (2 * f .node + 1)) (f .at) v
 
--- the rows once each frame has gone through the rest of the ways, the last first: d more nodes may stand on the path
-unfoldable pub resume : ℕ → ℕ → Shape → List Way → Rows → List Frame → Rows
-resume n d g ws v [] = v
-resume n d g ws v (f ∷ fs) = resume n (suc d) g ws (visits d g (f .node) (raised n (f .row)) v (drop (f .at) ws)) fs
+  -- the rows once each frame has gone on, the last first: d more nodes may stand on the path
+  unfoldable pub resume : ℕ → Rows → List Frame → Rows
+  resume d v [] = v
+  resume d v (f ∷ fs) = resume (suc d) (onward d f v) fs
 
 -- how many have no row
 abbrev pub unseen : Rows → ℕ
@@ -114,27 +80,38 @@ unfoldable pub looks : List Frame → ℕ
 looks [] = 0
 looks (f ∷ fs) = suc (176 - f .at) + looks fs
 
+-- the walk's state, of which the code has each part in a variable: which nodes have a row, and which; and the path, the first depth frames
+pub record Path : Type 0 where
+  pub seen : List Bool
+  pub rows : List ℤ
+  pub frames : List Frame
+  pub depth : ℕ
+
 abbrev pub reached : ℕ → Path → Rows
 reached n s = reachedIn n (s .seen) (s .rows)
 
-abbrev pub answer : ℕ → Shape → List Way → Path → Rows
-answer n g ws s = resume n (n - s .depth) g ws (reached n s) (stackOf noFrame (s .frames) (s .depth))
+abbrev pub answer : ℕ → List ℕ → List ℕ → Path → Rows
+answer n to bounds s = resume n to bounds (n - s .depth) (reached n s) (stackOf noFrame (s .frames) (s .depth))
 
 abbrev pub effort : ℕ → Path → ℕ
 effort n s = 177 * unseen (reached n s) + looks (stackOf noFrame (s .frames) (s .depth))
 
 -- The row of a frame is as far from the first one's, 0, as the path is long, at most.
-pub record Near (fs : List Frame) (d : ℕ) : Type 0 where
+pub record Framed (n : ℕ) (fs : List Frame) (d : ℕ) : Type 0 where
+  pub node : (j : ℕ) → j < d → getD fs j noFrame .node < n
   pub near : (j : ℕ) → j < d → natAbs (getD fs j noFrame .row) ≤ j
 
 -- each node on the path had no row before it
 pub record Good (n : ℕ) (s : Path) : Type 0 where
+  pub all : length (s .seen) ≡ 48
+  pub each : length (s .rows) ≡ 48
+  pub most : length (s .frames) ≡ 48
   pub room : s .depth + unseen (reached n s) ≤ n
-  pub near : Near (s .frames) (s .depth)
+  pub framed : Framed n (s .frames) (s .depth)
 
-pub record Stepped (n : ℕ) (g : Shape) (ws : List Way) (s r : Path) : Type 0 where
+pub record Stepped (n : ℕ) (to bounds : List ℕ) (s r : Path) : Type 0 where
   pub good : Good n r
-  pub same : answer n g ws r ≡ answer n g ws s
+  pub same : answer n to bounds r ≡ answer n to bounds s
   pub less : effort n r < effort n s
 
 -- the smaller of m and a row, if there is one

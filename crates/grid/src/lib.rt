@@ -21,6 +21,7 @@ pub use record::sound;
 mod columns;
 mod heights;
 mod label;
+mod leads;
 mod placing;
 mod record;
 mod render_grid;
@@ -115,7 +116,8 @@ fn lay_out(g: Tables, first: [u8; 48], x: u32, y: u32) -> SheetRecord
     let sinks = g.sinks;
     let from = graph::ends_of(sources);
     let to = graph::ends_of(sinks);
-    let rows = heights::heights(from, to, n);
+    let l = leads::leads_of(from, to, n);
+    let rows = heights::heights(&l.to, &l.bounds, n);
     let cols = columns::columns(from, to, rows, first, n);
     render_grid::laid(g, rows, cols, x, y)
 }
