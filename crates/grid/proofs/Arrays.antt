@@ -4,15 +4,14 @@ use Prim.Native.Nat.{ℕ, zero, suc, _+_, _-_, _≤_, _<_}
 use native.Mathlib.Omega.{arith}
 use native.Mathlib.Numerals.{add-one}
 use native.Mathlib.Nat.{le-of-suc-le-suc, not-suc-le-zero}
-use mathlib.Core.Path.{_≡_, refl, ap, sym, _∙_, subst}
-use mathlib.Core.Bool.{Bool, true, false}
-use mathlib.Core.List.{List, [], _∷_, _++_, map}
+use mathlib.Core.Path.{_≡_, ap, sym, _∙_, subst}
+use mathlib.Core.List.{List, [], _∷_, _++_}
 use lib.Dec.{eqb}
 use lib.ListN.{length, getD, set, take, drop, drop-of-length-le}
-use lib.Seq.{drop-cons, getD-take, length-take-le, take-all, drop-length}
+use lib.Seq.{drop-cons, getD-take, length-take-le}
 use borrow.Author.Tests.{eq-eqb, ne-eqb}
 use Rattle.laws.specs.Lists.{All, one, tabulate, keep, ownedBy, padded}
-use Rattle.laws.proofs.Lists.{padded-set, length-tabulate, getD-tabulate}
+use Rattle.laws.proofs.Lists.{padded-set, length-tabulate, getD-tabulate, tabulate-snoc, getD-padded}
 
 -- ---- the first `count` records of an array, and those of them that p owns
 module _ {R W : Type 0} (owner : R → ℕ) (value : R → W) (z : R) (p : ℕ) (array : List R) (count : ℕ) (room : count ≤ length array) where
@@ -53,61 +52,19 @@ module _ {R W : Type 0} (owner : R → ℕ) (value : R → W) (z : R) (p : ℕ) 
 
 -- ---- a table that is filled from its start
 module _ {A : Type 0} (f : ℕ → A) where
-  tabulate-more : (q k : ℕ) → tabulate f q (suc k) ≡ tabulate f q k ++ one (f (q + k))
-  tabulate-more q zero = ap (λ (i : ℕ). f i ∷ []) (omega arith)
-  tabulate-more q (suc k) =
-      let e : suc q + k ≡ q + suc k = omega arith in
-      ap (λ (l : List A). f q ∷ l) (tabulate-more (suc q) k ∙ ap (λ (i : ℕ). tabulate f (suc q) k ++ one (f i)) e)
-
   pub filled-next : (m : ℕ) (z : A) (k : ℕ) → set (padded m z (tabulate f 0 k)) k (f k) ≡ padded m z (tabulate f 0 (k + 1))
   filled-next m z k =
       let e : 0 + k ≡ k = omega arith in
       ap (λ (i : ℕ). set (padded m z (tabulate f 0 k)) i (f k)) (sym (length-tabulate f 0 k))
       ∙ padded-set m z (tabulate f 0 k) (f k)
-      ∙ ap (padded m z) (ap (λ (i : ℕ). tabulate f 0 k ++ one (f i)) (sym e) ∙ sym (tabulate-more 0 k) ∙ ap (tabulate f 0) (sym (add-one k)))
-
-padded-at : {A : Type 0} (m : ℕ) (z : A) (xs : List A) (i : ℕ) → length xs ≤ m → getD (padded m z xs) i z ≡ getD xs i z
-padded-at zero z [] i h = refl
-padded-at zero z (x ∷ xs) i h = absurd (not-suc-le-zero h)
-padded-at (suc m) z [] zero h = refl
-padded-at (suc m) z [] (suc i) h = padded-at m z [] i (omega arith)
-padded-at (suc m) z (x ∷ xs) zero h = refl
-padded-at (suc m) z (x ∷ xs) (suc i) h = padded-at m z xs i (le-of-suc-le-suc h)
+      ∙ ap (padded m z) (ap (λ (i : ℕ). tabulate f 0 k ++ one (f i)) (sym e) ∙ sym (tabulate-snoc f 0 k) ∙ ap (tabulate f 0) (sym (add-one k)))
 
 pub filled-at : {A : Type 0} (f : ℕ → A) (m : ℕ) (z : A) (k i : ℕ) → k ≤ m → i < k → getD (padded m z (tabulate f 0 k)) i z ≡ f i
 filled-at f m z k i l h =
-    padded-at m z (tabulate f 0 k) i (omega (arith, length-tabulate f 0 k)) ∙ getD-tabulate f 0 k i z h ∙ ap f (omega arith)
+    getD-padded m z (tabulate f 0 k) i z (omega arith) ∙ getD-tabulate f 0 k i z h ∙ ap f (omega arith)
 
--- the first k of it
-padded-take : {A : Type 0} (m : ℕ) (z : A) (xs : List A) → length xs ≤ m → take (length xs) (padded m z xs) ≡ xs
-padded-take m z [] h = refl
-padded-take zero z (x ∷ xs) h = absurd (not-suc-le-zero h)
-padded-take (suc m) z (x ∷ xs) h = ap (λ (l : List _). x ∷ l) (padded-take m z xs (le-of-suc-le-suc h))
-
-pub filled-take : {A : Type 0} (f : ℕ → A) (m : ℕ) (z : A) (k : ℕ) → k ≤ m → take k (padded m z (tabulate f 0 k)) ≡ tabulate f 0 k
-filled-take f m z k l =
-    ap (λ (i : ℕ). take i (padded m z (tabulate f 0 k))) (sym (length-tabulate f 0 k)) ∙ padded-take m z (tabulate f 0 k) (omega (arith, length-tabulate f 0 k))
-
-pub tabulate-same : {A : Type 0} (f g : ℕ → A) (q k : ℕ) → ((i : ℕ) → q ≤ i → i < q + k → f i ≡ g i) → tabulate f q k ≡ tabulate g q k
-tabulate-same f g q zero h = refl
-tabulate-same f g q (suc k) h = cc (h q (omega arith) (omega arith), tabulate-same f g (suc q) k (λ i l u. h i (omega arith) (omega arith)))
-
-pub map-tabulate : {A B : Type 0} (f : A → B) (g : ℕ → A) (q k : ℕ) → map f (tabulate g q k) ≡ tabulate (λ i. f (g i)) q k
-map-tabulate f g q zero = refl
-map-tabulate f g q (suc k) = ap (λ (l : List _). f (g q) ∷ l) (map-tabulate f g (suc q) k)
-
--- ---- the first n of an array, from its end
+-- ---- the first n of an array, from record k on
 module _ {A : Type 0} (z : A) (xs : List A) (n : ℕ) (room : n ≤ length xs) where
-  pub down-end : drop n (take n xs) ≡ []
-  down-end = let l : length (take n xs) ≤ n = omega (arith, length-take-le n xs room) in drop-of-length-le (take n xs) l
-
-  pub down-cons : (k : ℕ) → 0 < k → k ≤ n → drop (k - 1) (take n xs) ≡ getD xs (k - 1) z ∷ drop k (take n xs)
-  down-cons k h l =
-      let e : suc (k - 1) ≡ k = omega arith in
-      drop-cons (take n xs) (k - 1) z (omega (arith, length-take-le n xs room))
-      ∙ ap (λ (a : A). a ∷ drop (suc (k - 1)) (take n xs)) (getD-take n xs (k - 1) z (omega arith))
-      ∙ ap (λ (i : ℕ). getD xs (k - 1) z ∷ drop i (take n xs)) e
-
   pub up-cons : (k : ℕ) → k < n → drop k (take n xs) ≡ getD xs k z ∷ drop (k + 1) (take n xs)
   up-cons k h =
       drop-cons (take n xs) k z (omega (arith, length-take-le n xs room))
@@ -133,8 +90,3 @@ all-by P z (x ∷ xs) h = (h 0 (omega arith), all-by P z xs (λ i l. h (suc i) (
 pub all-tabulate : {A : Type 0} (P : A → Type 0) (f : ℕ → A) (q k : ℕ) → ((i : ℕ) → q ≤ i → i < q + k → P (f i)) → All P (tabulate f q k)
 all-tabulate P f q zero h = tt
 all-tabulate P f q (suc k) h = (h q (omega arith) (omega arith), all-tabulate P f (suc q) k (λ i l u. h i (omega arith) (omega arith)))
-
-pub all-padded : {A : Type 0} (P : A → Type 0) (m : ℕ) (z : A) (xs : List A) → P z → All P xs → All P (padded m z xs)
-all-padded P zero z xs p a = tt
-all-padded P (suc m) z [] p a = (p, all-padded P m z [] p tt)
-all-padded P (suc m) z (x ∷ xs) p a = (a .0, all-padded P m z xs p (a .1))

@@ -1,13 +1,14 @@
 -- Laws of the outputs and the curves.
 -- Assumes nothing.
-use Prim.Native.Nat.{ℕ, zero, suc, _+_, _-_, _*_, _/_, _≤_, _<_}
+use Prim.Native.Nat.{ℕ, zero, suc, _+_, _-_, _/_, _≤_}
 use native.Mathlib.Omega.{arith}
-use mathlib.Core.Path.{_≡_, refl, ap, sym, _∙_}
+use mathlib.Core.Path.{_≡_, refl}
 use mathlib.Core.Option.{Option, none, some}
 use mathlib.Core.Bool.{Bool, true, false, cond}
 use mathlib.Core.List.{List, [], _∷_, _++_}
-use lib.Dec.{eqb}
-use lib.ListN.{length}
+use lib.Dec.{eqb, ltb}
+use lib.ListN.{set}
+use borrow.Author.Tests.{ltb-true}
 use Rattle.graph.specs.Graph.{Edge}
 use Rattle.graph.specs.Tables.{markOf}
 use Rattle.grid.specs.declared.Curve.{Curve}
@@ -55,3 +56,13 @@ curve-is gap x y es (some m) k i = at-height gap x y es m i
 pub add-join : (s : Curves) (a b : List Curve) → addAll s (a ++ b) ≡ addAll (addAll s a) b
 add-join s [] b = refl
 add-join s (c ∷ a) b = add-join (added s c) a b
+
+-- there is room for 88
+added-few : (s : Curves) (c : Curve) (b : Bool) → ltb (s .drawn) 88 ≡ b → s .drawn ≤ 88 →
+    cond b (record { curves = set (s .curves) (s .drawn) c; drawn = s .drawn + 1 }) s .drawn ≤ 88
+added-few s c true e h = omega (arith, ltb-true (s .drawn) 88 e)
+added-few s c false e h = h
+
+pub add-few : (s : Curves) (cs : List Curve) → s .drawn ≤ 88 → addAll s cs .drawn ≤ 88
+add-few s [] h = h
+add-few s (c ∷ cs) h = add-few (added s c) cs (added-few s c (ltb (s .drawn) 88) refl h)

@@ -10,7 +10,7 @@ use lib.ListN.{length, getD, List·getD-eq-default}
 use borrow.Author.Tests.{ltb-true, ltb-false}
 use native.Mathlib.Nat.{zero-add}
 use Rattle.laws.specs.Lists.{tabulate, padded}
-use Rattle.laws.proofs.Lists.{length-tabulate, getD-tabulate}
+use Rattle.laws.proofs.Lists.{length-tabulate, getD-tabulate, map-tabulate}
 use Rattle.chart.specs.Tables.{ownedLines, linesOf as textsOf′}
 use Rattle.graph.specs.declared.Tables.{Tables}
 use Rattle.graph.specs.Graph.{Line, given, number, Edge, Node, Graph, nodeAt}
@@ -23,7 +23,7 @@ use Rattle.grid.specs.Record.{noBox}
 use Rattle.grid.specs.RenderGrid.{textMoved, boxOf, sheetOf}
 use Rattle.grid.specs.Curves.{noOutputs, boxRecord, recordOf}
 use Rattle.grid.specs.declared.BoxRecord.{BoxRecord}
-use Rattle.grid.proofs.Arrays.{filled-at, map-tabulate}
+use Rattle.grid.proofs.Arrays.{filled-at}
 use Rattle.grid.specs.Labels.{noLabel, placeFor, placeOf, labelAt, notHere, seek, nodeLabel, labelFrom, labelOf}
 use Rattle.grid.specs.Rendered.{renderOf}
 use Rattle.grid.proofs.NodeLaws.{node-is}

@@ -16,6 +16,7 @@ pub mod GridLaws
 pub mod Totals
 pub mod Arrays
 pub mod NodeLaws
+pub mod Noted
 pub mod CurveLaws
 pub mod LaidLaws
 pub mod RecordLaws

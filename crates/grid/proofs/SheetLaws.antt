@@ -1,22 +1,22 @@
 -- The sheet that the arrays hold is the definition's.
 -- Assumes nothing.
-use Prim.Native.Nat.{ℕ, zero, suc, _+_, _-_, _*_, _/_, _≤_, _<_}
+use Prim.Native.Nat.{ℕ, zero, suc, _+_, _*_, _/_, _≤_, _<_}
 use native.Mathlib.Omega.{arith}
-use native.Mathlib.Nat.{le-of-suc-le-suc, not-suc-le-zero, zero-add}
-use mathlib.Core.Path.{_≡_, refl, ap, sym, _∙_, subst}
+use native.Mathlib.Numerals.{add-one}
+use mathlib.Core.Path.{_≡_, refl, ap, sym, _∙_}
 use mathlib.Core.Option.{Option, none, some}
-use mathlib.Core.Bool.{Bool, true, false, cond}
+use mathlib.Core.Bool.{Bool, true, false}
 use mathlib.Core.List.{List, [], _∷_, _++_, map, append-assoc, append-nil}
 use lib.Dec.{eqb}
 use lib.ListN.{length, getD, take, length-append, length-take}
 use lib.Seq.{getD-take, length-take-le}
 use borrow.Author.Tests.{lt-ltb}
-use Rattle.laws.specs.Lists.{All, one, tabulate, keep, ownedBy, padded}
+use Rattle.laws.specs.Lists.{All, one, tabulate, keep, padded}
 use Rattle.laws.specs.Each.{each}
-use Rattle.laws.proofs.Lists.{length-tabulate, getD-tabulate, padded-set, length-padded}
+use Rattle.laws.proofs.Lists.{length-tabulate, getD-tabulate, tabulate-same, map-tabulate, padded-set}
 use Rattle.graph.specs.declared.Item.{Item}
 use Rattle.graph.specs.declared.Tables.{Tables}
-use Rattle.graph.specs.Graph.{Edge, Node, Graph, nodeAt, bare}
+use Rattle.graph.specs.Graph.{Edge, Node, nodeAt}
 use Rattle.graph.specs.Tables.{owned, edgeOf, itemsOf, linesOf, graphOf, graphFrom, nodeOf, dues, Aimed}
 use Rattle.graph.proofs.Lists.{node-graph}
 use Rattle.graph.proofs.Pairs.{dues-le}
@@ -25,8 +25,6 @@ use Rattle.grid.specs.declared.Curve.{Curve}
 use Rattle.grid.specs.declared.SheetRecord.{SheetRecord}
 use Rattle.grid.specs.declared.render_node.RenderNode.{RenderNode}
 use Rattle.grid.specs.declared.render_node.Run.{Run}
-use Rattle.grid.specs.declared.render_grid.Axis.{Axis}
-use Rattle.grid.specs.declared.render_grid.Frame.{Frame}
 use Rattle.grid.specs.declared.render_grid.Curves.{Curves}
 use Rattle.grid.specs.Lists.{largest}
 use Rattle.grid.specs.Columns.{at}
@@ -34,18 +32,12 @@ use Rattle.grid.specs.Record.{noBox, noCurve}
 use Rattle.grid.specs.RenderNode.{Input, Output, drawn, boxWidth, boxHeight, endWidth, inputsAt, outputsAt}
 use Rattle.grid.specs.RenderGrid.{Box, Sheet, begins, reach, extent, widths, tallnesses, boxOf, sheetOf, inputMoved, outputMoved}
 use Rattle.grid.specs.Curves.{outputFor, curveIf, noOutputs, curvesTo, curvesFrom, curves, boxRecord, recordOf}
-use Rattle.grid.specs.Rendered.{Seated, Modest, AllModest, noNode, noRun, nodesOf, renderOf, inputsOf, outputsOf}
-use Rattle.grid.specs.Laid.{frameOf, Bounded, beginsTo, axisOf, widthsOf, heightsOf, boxFrom, boxesFrom, movedRun, inputsTo, inputsFrom, outputsFor, outputsFrom, Movable, laidInputs, laidOutputs, noCurves, added, addAll, curvesOver, curvesAt}
-use Rattle.grid.proofs.Arrays.{filled-at, filled-take, tabulate-same, map-tabulate}
-use Rattle.grid.proofs.CurveLaws.{add-join}
+use Rattle.grid.specs.Rendered.{Seated, AllModest, numbersOf, Noted, renderOf, inputsOf, outputsOf}
+use Rattle.grid.specs.Laid.{Bounded, sizesIn, beginsTo, boxFrom, boxesFrom, runAt, Movable, laidInputs, laidOutputs, noCurves, added, addAll, curvesOver, curvesAt}
+use Rattle.grid.proofs.ListLaws.{at-largest}
+use Rattle.grid.proofs.Arrays.{filled-at, all-tabulate}
 use Rattle.grid.proofs.NodeLaws.{node-is, graph-long}
-use Rattle.grid.proofs.LaidLaws.{extent-le, largest-le, begins-le}
-
--- ---- lists
-at-largest : (xs : List ℕ) (k : ℕ) → k < length xs → at xs k ≤ largest xs
-at-largest [] k h = absurd (not-suc-le-zero h)
-at-largest (x ∷ xs) zero h = omega arith
-at-largest (x ∷ xs) (suc k) h = omega (arith, at-largest xs k (le-of-suc-le-suc h))
+use Rattle.grid.proofs.LaidLaws.{largest-le, begins-le}
 
 length-take-most : {A : Type 0} (n : ℕ) (l : List A) → length (take n l) ≤ n
 length-take-most n l = omega (arith, length-take n l)
@@ -117,17 +109,25 @@ all-inputs : (n gap x y : ℕ) (es : List Edge) → All (λ (e : Edge). e .to < 
 all-inputs n gap x y [] a = tt
 all-inputs n gap x y (e ∷ es) a = (a .0, all-inputs n gap (x + endWidth e + gap) y es (a .1))
 
-over-is : (n : ℕ) (ys : List Item) (outs : List Run) (bs : List Box) (k : ℕ) →
-    ((q : ℕ) → q < n → laidOutputs (getD outs q noRun) (owned q ys) ≡ getD bs q noOutputs .outputs) →
+over-is : (n : ℕ) (ys : List Item) (outs : ℕ → Run) (bs : List Box) (k : ℕ) →
+    ((q : ℕ) → q < n → laidOutputs (outs q) (owned q ys) ≡ getD bs q noOutputs .outputs) →
     (is : List Input) → All (λ (i : Input). i .from < n) is → curvesOver ys outs k is ≡ curvesTo bs k is
 over-is n ys outs bs k h [] a = refl
 over-is n ys outs bs k h (i ∷ is) a =
     ap (λ (os : List Output). curveIf (outputFor (i .mark) os k) i ++ curvesOver ys outs k is) (h (i .from) (a .0))
     ∙ ap (λ (l : List Curve). curveIf (outputFor (i .mark) (getD bs (i .from) noOutputs .outputs) k) i ++ l) (over-is n ys outs bs k h is (a .1))
 
--- ---- the sheet of the tables
+-- ---- the sheet of the tables, whose boxes' numbers stand in ns
+abbrev moved : Run → ℕ → ℕ → Run
+moved r x y = record { x = r .x + x; y = r .y + y; gap = r .gap }
+
+-- the lines that were stored
+pub begun : (gap : ℕ) (ps ss xs : List ℕ) (last : ℕ) → last ≡ largest ps → last ≤ 143 → xs ≡ beginsTo gap ps ss (last + 1) →
+    (c : ℕ) → c ≤ largest ps → getD xs c 0 ≡ begins gap ps ss c
+begun gap ps ss xs last e l is c h = ap (λ (v : List ℕ). getD v c 0) is ∙ filled-at (begins gap ps ss) 144 0 (last + 1) c (omega arith) (omega arith)
+
 module _ (g : Tables) (seat : Seated g) (cols rows : List ℕ) (wide : g .n ≤ length cols) (tall : g .n ≤ length rows)
-    (in-cols : Bounded 143 cols (g .n)) (in-rows : Bounded 143 rows (g .n)) where
+    (in-cols : Bounded 143 cols (g .n)) (in-rows : Bounded 143 rows (g .n)) (ns : List ℕ) (noted : Noted (graphOf g) (g .n) ns) where
   few : g .n ≤ 48
   few = seat .linked .nodes
 
@@ -140,268 +140,232 @@ module _ (g : Tables) (seat : Seated g) (cols rows : List ℕ) (wide : g .n ≤ 
       map-tabulate f (nodeOf (linesOf g) (itemsOf (g .sources)) (itemsOf (g .sinks))) 0 (g .n)
       ∙ tabulate-same _ _ 0 (g .n) (λ i l u. ap f (sym (node-graph (g .n) (linesOf g) (itemsOf (g .sources)) (itemsOf (g .sinks)) i (omega arith))))
 
-  abbrev nodes : List RenderNode
-  nodes = nodesOf (graphOf g) (g .n)
+  abbrev cs : List ℕ
+  cs = take (g .n) cols
 
-  nodes-at : (k : ℕ) → k < g .n → getD nodes k noNode ≡ renderOf (nodeAt (graphOf g) k)
-  nodes-at k h = filled-at (λ p. renderOf (nodeAt (graphOf g) p)) 48 noNode (g .n) k few h
+  abbrev rs : List ℕ
+  rs = take (g .n) rows
 
-  width-at : (k : ℕ) → k < g .n → getD nodes k noNode .width ≡ boxWidth (nodeAt (graphOf g) k)
+  abbrev node : ℕ → RenderNode
+  node k = renderOf (nodeAt (graphOf g) k)
+
+  widths-are : sizesIn ns 0 (g .n) ≡ widths (graphOf g)
   unfolding renderOf
-  width-at k h = ap (λ (v : RenderNode). v .width) (nodes-at k h)
-
-  height-at : (k : ℕ) → k < g .n → getD nodes k noNode .height ≡ boxHeight (nodeAt (graphOf g) k)
-  unfolding renderOf
-  height-at k h = ap (λ (v : RenderNode). v .height) (nodes-at k h)
-
-  inputs-at : (k : ℕ) → k < g .n → getD nodes k noNode .inputs ≡ inputsOf (nodeAt (graphOf g) k)
-  unfolding renderOf
-  inputs-at k h = ap (λ (v : RenderNode). v .inputs) (nodes-at k h)
-
-  outputs-at : (k : ℕ) → k < g .n → getD nodes k noNode .outputs ≡ outputsOf (nodeAt (graphOf g) k)
-  unfolding renderOf
-  outputs-at k h = ap (λ (v : RenderNode). v .outputs) (nodes-at k h)
-
-  widths-are : take (g .n) (widthsOf nodes (g .n)) ≡ widths (graphOf g)
   widths-are =
-      filled-take (λ k. getD nodes k noNode .width) 48 0 (g .n) few
-      ∙ tabulate-same (λ k. getD nodes k noNode .width) (λ k. boxWidth (nodeAt (graphOf g) k)) 0 (g .n) (λ i l u. width-at i (omega arith))
+      tabulate-same (λ k. getD ns (8 * k + 0) 0) (λ k. boxWidth (nodeAt (graphOf g) k)) 0 (g .n) (λ i l u. noted .number i (omega arith) 0 (omega arith))
       ∙ sym (map-nodes boxWidth)
 
-  heights-are : take (g .n) (heightsOf nodes (g .n)) ≡ tallnesses (graphOf g)
+  heights-are : sizesIn ns 1 (g .n) ≡ tallnesses (graphOf g)
+  unfolding renderOf
   heights-are =
-      filled-take (λ k. getD nodes k noNode .height) 48 0 (g .n) few
-      ∙ tabulate-same (λ k. getD nodes k noNode .height) (λ k. boxHeight (nodeAt (graphOf g) k)) 0 (g .n) (λ i l u. height-at i (omega arith))
+      tabulate-same (λ k. getD ns (8 * k + 1) 0) (λ k. boxHeight (nodeAt (graphOf g) k)) 0 (g .n) (λ i l u. noted .number i (omega arith) 1 (omega arith))
       ∙ sym (map-nodes boxHeight)
 
-  abbrev across : Axis
-  across = axisOf 1024 (take (g .n) cols) (widths (graphOf g))
+  pub small-widths : AllModest (graphOf g) (g .n) → All (λ s. s ≤ 8389000) (sizesIn ns 0 (g .n))
+  small-widths m =
+      all-tabulate (λ s. s ≤ 8389000) (λ k. getD ns (8 * k + 0) 0) 0 (g .n)
+      (λ i l u. let h : i < g .n = omega arith in omega (arith, noted .number i h 0 (omega arith), m i h .wide))
 
-  abbrev down : Axis
-  down = axisOf 2048 (take (g .n) rows) (tallnesses (graphOf g))
+  pub small-heights : AllModest (graphOf g) (g .n) → All (λ s. s ≤ 8389000) (sizesIn ns 1 (g .n))
+  small-heights m =
+      all-tabulate (λ s. s ≤ 8389000) (λ k. getD ns (8 * k + 1) 0) 0 (g .n)
+      (λ i l u. let h : i < g .n = omega arith in omega (arith, noted .number i h 1 (omega arith), m i h .tall))
 
-  starts-at : (gap : ℕ) (places sizes : List ℕ) → g .n ≤ length places → Bounded 143 places (g .n) → (k : ℕ) → k < g .n →
-      getD (beginsTo gap (take (g .n) places) sizes (suc (largest (take (g .n) places)))) (getD places k 0) 0
-      ≡ begins gap (take (g .n) places) sizes (at (take (g .n) places) k)
-  starts-at gap places sizes l b k h =
-      let e : getD places k 0 ≡ at (take (g .n) places) k = sym (getD-take (g .n) places k 0 h) in
-      let m : at (take (g .n) places) k ≤ largest (take (g .n) places) = at-largest (take (g .n) places) k (omega (arith, length-take-le (g .n) places l)) in
-      ap (λ (i : ℕ). getD (beginsTo gap (take (g .n) places) sizes (suc (largest (take (g .n) places)))) i 0) e
-      ∙ filled-at (begins gap (take (g .n) places) sizes) 144 0 (suc (largest (take (g .n) places))) (at (take (g .n) places) k) (omega (arith, largest-le 143 (g .n) places l b)) (omega arith)
+  pub last-column : largest cs ≤ 143
+  last-column = largest-le 143 (g .n) cols wide in-cols
 
-  abbrev boxes : List BoxRecord
-  boxes = boxesFrom nodes (across .starts) (down .starts) cols rows (g .n)
+  pub last-row : largest rs ≤ 143
+  last-row = largest-le 143 (g .n) rows tall in-rows
 
-  abbrev box : ℕ → Box
-  box = boxOf (graphOf g) (take (g .n) cols) (take (g .n) rows)
+  -- columns begin at xs and rows at ys
+  module _ (xs ys : List ℕ) (xs-at : (c : ℕ) → c ≤ largest cs → getD xs c 0 ≡ begins 1024 cs (sizesIn ns 0 (g .n)) c)
+      (ys-at : (c : ℕ) → c ≤ largest rs → getD ys c 0 ≡ begins 2048 rs (sizesIn ns 1 (g .n)) c) where
+    abbrev box : ℕ → Box
+    box = boxOf (graphOf g) cs rs
 
-  box-is : (k : ℕ) → k < g .n → boxFrom nodes (across .starts) (down .starts) cols rows k ≡ boxRecord (box k)
-  unfolding drawn
-  box-is k h =
-      let cx = starts-at 1024 cols (widths (graphOf g)) wide in-cols k h in
-      let cy = starts-at 2048 rows (tallnesses (graphOf g)) tall in-rows k h in
-      let ec : getD cols k 0 ≡ at (take (g .n) cols) k = sym (getD-take (g .n) cols k 0 h) in
-      let er : getD rows k 0 ≡ at (take (g .n) rows) k = sym (getD-take (g .n) rows k 0 h) in
-      rw (cx, cy, width-at k h, height-at k h, ec, er)
+    in-largest : (places : List ℕ) → g .n ≤ length places → (k : ℕ) → k < g .n → getD places k 0 ≤ largest (take (g .n) places)
+    in-largest places l k h =
+        omega (arith, getD-take (g .n) places k 0 h, at-largest (take (g .n) places) k (omega (arith, length-take-le (g .n) places l)))
 
-  boxes-at : (k : ℕ) → k < g .n → getD boxes k noBox ≡ boxRecord (box k)
-  boxes-at k h = filled-at (boxFrom nodes (across .starts) (down .starts) cols rows) 48 noBox (g .n) k few h ∙ box-is k h
+    x-at : (k : ℕ) → k < g .n → getD xs (getD cols k 0) 0 ≡ box k .x
+    x-at k h =
+        xs-at (getD cols k 0) (in-largest cols wide k h) ∙ ap (λ (ss : List ℕ). begins 1024 cs ss (getD cols k 0)) widths-are
+        ∙ ap (begins 1024 cs (widths (graphOf g))) (sym (getD-take (g .n) cols k 0 h))
 
-  boxes-are : boxes ≡ padded 48 noBox (map boxRecord (tabulate box 0 (length (graphOf g))))
-  boxes-are =
-      ap (padded 48 noBox)
-      (tabulate-same (boxFrom nodes (across .starts) (down .starts) cols rows) (λ k. boxRecord (box k)) 0 (g .n) (λ i l u. box-is i (omega arith))
-      ∙ sym (map-tabulate boxRecord box 0 (g .n))
-      ∙ ap (λ (m : ℕ). map boxRecord (tabulate box 0 m)) (sym long))
+    y-at : (k : ℕ) → k < g .n → getD ys (getD rows k 0) 0 ≡ box k .y
+    y-at k h =
+        ys-at (getD rows k 0) (in-largest rows tall k h) ∙ ap (λ (ss : List ℕ). begins 2048 rs ss (getD rows k 0)) heights-are
+        ∙ ap (begins 2048 rs (tallnesses (graphOf g))) (sym (getD-take (g .n) rows k 0 h))
 
-  -- the curves
-  abbrev bs : List Box
-  bs = tabulate box 0 (length (graphOf g))
+    box-is : (k : ℕ) → k < g .n → boxFrom ns xs ys cols rows k ≡ boxRecord (box k)
+    unfolding drawn renderOf
+    box-is k h =
+        let e : 8 * k ≡ 8 * k + 0 = omega arith in
+        let w : getD ns (8 * k) 0 ≡ boxWidth (nodeAt (graphOf g) k) = ap (λ (i : ℕ). getD ns i 0) e ∙ noted .number k h 0 (omega arith) in
+        let t : getD ns (8 * k + 1) 0 ≡ boxHeight (nodeAt (graphOf g) k) = noted .number k h 1 (omega arith) in
+        let ec : getD cols k 0 ≡ at cs k = sym (getD-take (g .n) cols k 0 h) in
+        let er : getD rows k 0 ≡ at rs k = sym (getD-take (g .n) rows k 0 h) in
+        rw (x-at k h, y-at k h, w, t, ec, er)
 
-  abbrev xs : List Item
-  xs = itemsOf (g .sources)
+    boxes-are : boxesFrom ns xs ys cols rows (g .n) ≡ padded 48 noBox (map boxRecord (tabulate box 0 (length (graphOf g))))
+    boxes-are =
+        ap (padded 48 noBox)
+        (tabulate-same (boxFrom ns xs ys cols rows) (λ k. boxRecord (box k)) 0 (g .n) (λ i l u. box-is i (omega arith))
+        ∙ sym (map-tabulate boxRecord box 0 (g .n))
+        ∙ ap (λ (m : ℕ). map boxRecord (tabulate box 0 m)) (sym long))
 
-  abbrev ys : List Item
-  ys = itemsOf (g .sinks)
+    -- the points in their final places
+    abbrev ins : ℕ → Run
+    ins = runAt ns xs ys cols rows 2
 
-  abbrev outs : List Run
-  outs = outputsFrom nodes boxes (g .n)
+    abbrev outs : ℕ → Run
+    outs = runAt ns xs ys cols rows 5
 
-  bs-at : (q : ℕ) → q < g .n → getD bs q noOutputs ≡ box q
-  bs-at q h = getD-tabulate box 0 (length (graphOf g)) q noOutputs (omega (arith, long)) ∙ ap box (omega arith)
+    -- the numbers of box k from `from` on are the run r
+    module _ (k : ℕ) (h : k < g .n) (from : ℕ) (r : Run) (first : getD ns (8 * k + from) 0 ≡ r .x) (height : getD ns (8 * k + from + 1) 0 ≡ r .y)
+        (gap : getD ns (8 * k + from + 2) 0 ≡ r .gap) where
+      run-is : runAt ns xs ys cols rows from k ≡ moved r (box k .x) (box k .y)
+      run-is = rw (first, height, gap, x-at k h, y-at k h)
 
-  sinks-are : (q : ℕ) → q < g .n → nodeAt (graphOf g) q .sinks ≡ owned q ys
-  sinks-are q h = ap (λ (v : Node). v .sinks) (node-is g q h)
+      run-moves : AllModest (graphOf g) (g .n) → r .x ≤ 8389000 → r .y ≤ 200000 → r .gap ≤ 8389000 → Movable ns xs ys cols rows from k
+      run-moves m a b c =
+          record {
+            column = in-cols .most k h;
+            row = in-rows .most k h;
+            first = omega (arith, first);
+            height = omega (arith, height);
+            gap = omega (arith, gap);
+            across = omega (arith, xs-at (getD cols k 0) (in-largest cols wide k h), begins-le 1024 cs (sizesIn ns 0 (g .n)) (omega arith) (small-widths m) (getD cols k 0), in-cols .most k h);
+            down = omega (arith, ys-at (getD rows k 0) (in-largest rows tall k h), begins-le 2048 rs (sizesIn ns 1 (g .n)) (omega arith) (small-heights m) (getD rows k 0), in-rows .most k h);
+          }
 
-  sources-are : (q : ℕ) → q < g .n → nodeAt (graphOf g) q .sources ≡ owned q xs
-  sources-are q h = ap (λ (v : Node). v .sources) (node-is g q h)
+    number-at : (k : ℕ) → k < g .n → (from j i : ℕ) → from + j ≡ i → i < 8 → getD ns (8 * k + from + j) 0 ≡ getD (numbersOf (node k)) i 0
+    number-at k h from j i e l = let q : 8 * k + from + j ≡ 8 * k + i = omega arith in ap (λ (m : ℕ). getD ns m 0) q ∙ noted .number k h i l
 
-  outs-at : (q : ℕ) → q < g .n → laidOutputs (getD outs q noRun) (owned q ys) ≡ getD bs q noOutputs .outputs
-  unfolding drawn
-  outs-at q h =
-      let r : Run = outputsOf (nodeAt (graphOf g) q) in
-      let e : getD outs q noRun ≡ movedRun r (box q .x) (box q .y) =
-      filled-at (outputsFor nodes boxes) 48 noRun (g .n) q few h ∙ rw (outputs-at q h, boxes-at q h) in
-      rw (e, bs-at q h, ← sinks-are q h) (outputs-moved (box q .x) (box q .y) (r .gap) (r .x) (r .y) (nodeAt (graphOf g) q .sinks))
+    ins-at : (k : ℕ) → k < g .n → ins k ≡ moved (node k .inputs) (box k .x) (box k .y)
+    ins-at k h = run-is k h 2 (node k .inputs) (noted .number k h 2 (omega arith)) (number-at k h 2 1 3 refl (omega arith)) (number-at k h 2 2 4 refl (omega arith))
 
-  abbrev ins : List Run
-  ins = inputsFrom nodes boxes (g .n)
+    outs-at : (k : ℕ) → k < g .n → outs k ≡ moved (node k .outputs) (box k .x) (box k .y)
+    outs-at k h = run-is k h 5 (node k .outputs) (noted .number k h 5 (omega arith)) (number-at k h 5 1 6 refl (omega arith)) (number-at k h 5 2 7 refl (omega arith))
 
-  inputs-are : (k : ℕ) → k < g .n → laidInputs (getD ins k noRun) (owned k xs) ≡ box k .inputs
-  unfolding drawn
-  inputs-are k h =
-      let r : Run = inputsOf (nodeAt (graphOf g) k) in
-      let e : getD ins k noRun ≡ movedRun r (box k .x) (box k .y) =
-      filled-at (inputsTo nodes boxes) 48 noRun (g .n) k few h ∙ rw (inputs-at k h, boxes-at k h) in
-      rw (e, ← sources-are k h) (inputs-moved (box k .x) (box k .y) (r .gap) (r .x) (r .y) (nodeAt (graphOf g) k .sources))
+    pub inputs-move : AllModest (graphOf g) (g .n) → (k : ℕ) → k < g .n → Movable ns xs ys cols rows 2 k
+    inputs-move m k h =
+        run-moves k h 2 (node k .inputs) (noted .number k h 2 (omega arith)) (number-at k h 2 1 3 refl (omega arith)) (number-at k h 2 2 4 refl (omega arith))
+        m (m k h .first-input) (m k h .input-height) (m k h .input-gap)
 
-  abbrev to : ℕ → List Curve
-  to k = curvesOver ys outs k (laidInputs (getD ins k noRun) (owned k xs))
+    pub outputs-move : AllModest (graphOf g) (g .n) → (k : ℕ) → k < g .n → Movable ns xs ys cols rows 5 k
+    outputs-move m k h =
+        run-moves k h 5 (node k .outputs) (noted .number k h 5 (omega arith)) (number-at k h 5 1 6 refl (omega arith)) (number-at k h 5 2 7 refl (omega arith))
+        m (m k h .first-output) (m k h .output-height) (m k h .output-gap)
 
-  to-is : (k : ℕ) → k < g .n → to k ≡ curvesTo bs k (box k .inputs)
-  to-is k h =
-      over-is (g .n) ys outs bs k outs-at (laidInputs (getD ins k noRun) (owned k xs))
-      (all-inputs (g .n) (getD ins k noRun .gap) (getD ins k noRun .x) (getD ins k noRun .y) (owned k xs) (all-owned (g .n) k xs (seat .linked .source-aims)))
-      ∙ ap (curvesTo bs k) (inputs-are k h)
+    -- the curves
+    abbrev bs : List Box
+    bs = tabulate box 0 (length (graphOf g))
 
-  to-few : (k : ℕ) → k < g .n → length (curvesTo bs k (box k .inputs)) ≤ length (owned k xs)
-  to-few k h =
-      omega (arith, to-short bs k (box k .inputs), ap length (inputs-are k h), inputs-long (getD ins k noRun .gap) (getD ins k noRun .x) (getD ins k noRun .y) (owned k xs))
+    abbrev us : List Item
+    us = itemsOf (g .sources)
 
-  -- at most as many as sources
-  from-few : (q k : ℕ) → q + k ≤ g .n → length (curvesFrom bs q (tabulate box q k)) ≤ dues xs q k
-  from-few q zero h = omega arith
-  from-few q (suc k) h =
-      let d : length (curvesTo bs q (box q .inputs)) ≤ length (owned q xs) = to-few q (omega arith) in
-      let r : length (curvesFrom bs (suc q) (tabulate box (suc q) k)) ≤ dues xs (suc q) k = from-few (suc q) k (omega arith) in
-      omega (arith, length-append (curvesTo bs q (box q .inputs)) (curvesFrom bs (suc q) (tabulate box (suc q) k)))
+    abbrev vs : List Item
+    vs = itemsOf (g .sinks)
 
-  few-items : length xs ≤ g .sources .count
-  few-items = omega (arith, length-take-most (g .sources .count) (g .sources .items))
+    bs-at : (q : ℕ) → q < g .n → getD bs q noOutputs ≡ box q
+    bs-at q h = getD-tabulate box 0 (length (graphOf g)) q noOutputs (omega (arith, long)) ∙ ap box (omega arith)
 
-  from-room : (k : ℕ) → k ≤ g .n → length (curvesFrom bs 0 (tabulate box 0 k)) ≤ 88
-  from-room k h = omega (arith, from-few 0 k (omega arith), dues-le xs 0 k, few-items, seat .linked .source-room)
+    sinks-are : (q : ℕ) → q < g .n → nodeAt (graphOf g) q .sinks ≡ owned q vs
+    sinks-are q h = ap (λ (v : Node). v .sinks) (node-is g q h)
 
-  made : (k : ℕ) → k ≤ g .n → each noCurves (curvesAt xs ys ins outs) k ≡ held (curvesFrom bs 0 (tabulate box 0 k))
-  unfolding each
-  made zero h = refl
-  made (suc k) h =
-      let z : 0 + k ≡ k = omega arith in
-      let m : curvesFrom bs 0 (tabulate box 0 (suc k)) ≡ curvesFrom bs 0 (tabulate box 0 k) ++ curvesTo bs k (box k .inputs) =
-      curves-more bs box 0 k ∙ ap (λ (i : ℕ). curvesFrom bs 0 (tabulate box 0 k) ++ curvesTo bs i (box i .inputs)) z in
-      ap (curvesAt xs ys ins outs k) (made k (omega arith))
-      ∙ ap (addAll (held (curvesFrom bs 0 (tabulate box 0 k)))) (to-is k (omega arith))
-      ∙ add-held (curvesFrom bs 0 (tabulate box 0 k)) (curvesTo bs k (box k .inputs))
-      (omega (arith, from-room (suc k) h, ap length m, length-append (curvesFrom bs 0 (tabulate box 0 k)) (curvesTo bs k (box k .inputs))))
-      ∙ ap held (sym m)
+    sources-are : (q : ℕ) → q < g .n → nodeAt (graphOf g) q .sources ≡ owned q us
+    sources-are q h = ap (λ (v : Node). v .sources) (node-is g q h)
 
-  abbrev whole : Sheet
-  whole = sheetOf (graphOf g) (g .cuts) (take (g .n) cols) (take (g .n) rows)
+    outputs-are : (q : ℕ) → q < g .n → laidOutputs (outs q) (owned q vs) ≡ getD bs q noOutputs .outputs
+    unfolding drawn renderOf
+    outputs-are q h =
+        let r : Run = outputsOf (nodeAt (graphOf g) q) in
+        ap (λ (v : Run). laidOutputs v (owned q vs)) (outs-at q h)
+        ∙ rw (bs-at q h, ← sinks-are q h) (outputs-moved (box q .x) (box q .y) (r .gap) (r .x) (r .y) (nodeAt (graphOf g) q .sinks))
 
-  curves-are : each noCurves (curvesAt xs ys ins outs) (g .n) ≡ held (curves whole)
-  unfolding sheetOf curves
-  curves-are = made (g .n) (omega arith) ∙ ap (λ (m : ℕ). held (curvesFrom bs 0 (tabulate box 0 m))) (sym long)
+    inputs-are : (k : ℕ) → k < g .n → laidInputs (ins k) (owned k us) ≡ box k .inputs
+    unfolding drawn renderOf
+    inputs-are k h =
+        let r : Run = inputsOf (nodeAt (graphOf g) k) in
+        ap (λ (v : Run). laidInputs v (owned k us)) (ins-at k h)
+        ∙ rw (← sources-are k h) (inputs-moved (box k .x) (box k .y) (r .gap) (r .x) (r .y) (nodeAt (graphOf g) k .sources))
 
-  -- there are at most as many curves as sources
-  pub curves-few : length (curves whole) ≤ g .sources .count
-  unfolding sheetOf curves
-  curves-few =
-      let l : length (curvesFrom bs 0 (tabulate box 0 (length (graphOf g)))) ≤ dues xs 0 (length (graphOf g)) = from-few 0 (length (graphOf g)) (omega (arith, long)) in
-      omega (arith, l, dues-le xs 0 (length (graphOf g)), few-items)
+    abbrev to : ℕ → List Curve
+    to k = curvesOver vs outs k (laidInputs (ins k) (owned k us))
 
-  -- the numbers are small
-  pub bounded-widths : AllModest (graphOf g) (g .n) → Bounded 8389000 (widthsOf nodes (g .n)) (g .n)
-  bounded-widths m =
-      record {
-        most = λ k h. let e : getD (widthsOf nodes (g .n)) k 0 ≡ getD nodes k noNode .width = filled-at (λ k. getD nodes k noNode .width) 48 0 (g .n) k few h in
-            let w : getD nodes k noNode .width ≤ 8389000 = subst (λ (v : RenderNode). v .width ≤ 8389000) (sym (nodes-at k h)) (m k h .wide) in
-            omega (arith, e, w);
-      }
+    to-is : (k : ℕ) → k < g .n → to k ≡ curvesTo bs k (box k .inputs)
+    to-is k h =
+        over-is (g .n) vs outs bs k outputs-are (laidInputs (ins k) (owned k us))
+        (all-inputs (g .n) (ins k .gap) (ins k .x) (ins k .y) (owned k us) (all-owned (g .n) k us (seat .linked .source-aims)))
+        ∙ ap (curvesTo bs k) (inputs-are k h)
 
-  pub bounded-heights : AllModest (graphOf g) (g .n) → Bounded 8389000 (heightsOf nodes (g .n)) (g .n)
-  bounded-heights m =
-      record {
-        most = λ k h. let e : getD (heightsOf nodes (g .n)) k 0 ≡ getD nodes k noNode .height = filled-at (λ k. getD nodes k noNode .height) 48 0 (g .n) k few h in
-            let w : getD nodes k noNode .height ≤ 200000 = subst (λ (v : RenderNode). v .height ≤ 200000) (sym (nodes-at k h)) (m k h .tall) in
-            omega (arith, e, w);
-      }
+    to-few : (k : ℕ) → k < g .n → length (curvesTo bs k (box k .inputs)) ≤ length (owned k us)
+    to-few k h =
+        omega (arith, to-short bs k (box k .inputs), ap length (inputs-are k h), inputs-long (ins k .gap) (ins k .x) (ins k .y) (owned k us))
 
-  place-le : (gap : ℕ) (places sizes : List ℕ) → gap ≤ 2048 → g .n ≤ length places → Bounded 143 places (g .n) → Bounded 8389000 sizes (g .n) → g .n ≤ length sizes →
-      (k : ℕ) → k < g .n → begins gap (take (g .n) places) (take (g .n) sizes) (at (take (g .n) places) k) ≤ 1250000000
-  place-le gap places sizes b l p s r k h =
-      omega (
-        arith,
-        begins-le gap (take (g .n) places) (take (g .n) sizes) b (extent-le 8389000 (g .n) sizes r s (take (g .n) places)) (at (take (g .n) places) k),
-        getD-take (g .n) places k 0 h,
-        p .most k h,
-      )
+    -- at most as many as sources
+    from-few : (q k : ℕ) → q + k ≤ g .n → length (curvesFrom bs q (tabulate box q k)) ≤ dues us q k
+    from-few q zero h = omega arith
+    from-few q (suc k) h =
+        let d : length (curvesTo bs q (box q .inputs)) ≤ length (owned q us) = to-few q (omega arith) in
+        let r : length (curvesFrom bs (suc q) (tabulate box (suc q) k)) ≤ dues us (suc q) k = from-few (suc q) k (omega arith) in
+        omega (arith, length-append (curvesTo bs q (box q .inputs)) (curvesFrom bs (suc q) (tabulate box (suc q) k)))
 
-  pub movable : AllModest (graphOf g) (g .n) → Movable nodes boxes (g .n)
-  movable m =
-      record {
-        node = λ k h. subst Modest (sym (nodes-at k h)) (m k h);
-        across = λ k h. rw (boxes-at k h, ← widths-are)
-            (place-le 1024 cols (widthsOf nodes (g .n)) (omega arith) wide in-cols (bounded-widths m) (omega (arith, few, length-padded 48 0 (tabulate (λ k. getD nodes k noNode .width) 0 (g .n)))) k h);
-        down = λ k h. rw (boxes-at k h, ← heights-are)
-            (place-le 2048 rows (heightsOf nodes (g .n)) (omega arith) tall in-rows (bounded-heights m) (omega (arith, few, length-padded 48 0 (tabulate (λ k. getD nodes k noNode .height) 0 (g .n)))) k h);
-      }
+    few-items : length us ≤ g .sources .count
+    few-items = omega (arith, length-take-most (g .sources .count) (g .sources .items))
 
-  laid-is : (x y : ℕ) →
-      _≡_ {A = SheetRecord}
-      (record {
-        width = across .total;
-        height = down .total;
-        x = x;
-        y = y;
-        columns = across .lines;
-        rows = down .lines;
-        cuts = g .cuts;
-        count = g .n;
-        drawn = each noCurves (curvesAt xs ys ins outs) (g .n) .drawn;
-        boxes = boxes;
-        curves = each noCurves (curvesAt xs ys ins outs) (g .n) .curves;
-      })
-      (recordOf whole x y)
-  unfolding recordOf sheetOf
-  laid-is x y = rw (curves-are, boxes-are, length-tabulate box 0 (length (graphOf g)), long)
+    from-room : (k : ℕ) → k ≤ g .n → length (curvesFrom bs 0 (tabulate box 0 k)) ≤ 88
+    from-room k h = omega (arith, from-few 0 k (omega arith), dues-le us 0 k, few-items, seat .linked .source-room)
 
-  -- the same of the arrays that the code makes one after the other
-  module _ (nodes′ : List RenderNode) (wide′ tall′ : List ℕ) (across′ down′ : Axis) (boxes′ : List BoxRecord) (is-nodes : nodes′ ≡ nodes)
-      (is-wide : wide′ ≡ widthsOf nodes′ (g .n)) (is-tall : tall′ ≡ heightsOf nodes′ (g .n)) (is-across : across′ ≡ axisOf 1024 (take (g .n) cols) (take (g .n) wide′))
-      (is-down : down′ ≡ axisOf 2048 (take (g .n) rows) (take (g .n) tall′)) (is-boxes : boxes′ ≡ boxesFrom nodes′ (across′ .starts) (down′ .starts) cols rows (g .n)) where
-    pub movable-from : AllModest (graphOf g) (g .n) → Movable nodes′ boxes′ (g .n)
-    movable-from m = rw (is-boxes, is-down, is-across, is-tall, is-wide, is-nodes, widths-are, heights-are) (movable m)
+    made : (k : ℕ) → k ≤ g .n → each noCurves (curvesAt us vs ins outs) k ≡ held (curvesFrom bs 0 (tabulate box 0 k))
+    unfolding each
+    made zero h = refl
+    made (suc k) h =
+        let z : 0 + k ≡ k = omega arith in
+        let m : curvesFrom bs 0 (tabulate box 0 (suc k)) ≡ curvesFrom bs 0 (tabulate box 0 k) ++ curvesTo bs k (box k .inputs) =
+        curves-more bs box 0 k ∙ ap (λ (i : ℕ). curvesFrom bs 0 (tabulate box 0 k) ++ curvesTo bs i (box i .inputs)) z in
+        ap (curvesAt us vs ins outs k) (made k (omega arith))
+        ∙ ap (addAll (held (curvesFrom bs 0 (tabulate box 0 k)))) (to-is k (omega arith))
+        ∙ add-held (curvesFrom bs 0 (tabulate box 0 k)) (curvesTo bs k (box k .inputs))
+        (omega (arith, from-room (suc k) h, ap length m, length-append (curvesFrom bs 0 (tabulate box 0 k)) (curvesTo bs k (box k .inputs))))
+        ∙ ap held (sym m)
 
-    pub frame-from : (ins′ outs′ : List Run) → ins′ ≡ inputsFrom nodes′ boxes′ (g .n) → outs′ ≡ outputsFrom nodes′ boxes′ (g .n) →
-        _≡_ {A = Frame}
+    abbrev whole : Sheet
+    whole = sheetOf (graphOf g) (g .cuts) cs rs
+
+    curves-are : each noCurves (curvesAt us vs ins outs) (g .n) ≡ held (curves whole)
+    unfolding sheetOf curves
+    curves-are = made (g .n) (omega arith) ∙ ap (λ (m : ℕ). held (curvesFrom bs 0 (tabulate box 0 m))) (sym long)
+
+    -- the sheet's size along the lines
+    total-is : (gap : ℕ) (ps ss starts : List ℕ) → ((c : ℕ) → c ≤ largest ps → getD starts c 0 ≡ begins gap ps ss c) →
+        getD starts (largest ps) 0 + extent ps ss (largest ps) + 128 ≡ reach gap ps ss
+    total-is gap ps ss starts e = ap (λ (i : ℕ). i + extent ps ss (largest ps) + 128) (e (largest ps) (omega arith))
+
+    -- what the code makes, one after the other, is the definition's
+    pub laid-is : (right low width height : ℕ) (boxes : List BoxRecord) (all : Curves) → right ≡ largest cs → low ≡ largest rs →
+        width ≡ getD xs right 0 + extent cs (sizesIn ns 0 (g .n)) right + 128 → height ≡ getD ys low 0 + extent rs (sizesIn ns 1 (g .n)) low + 128 →
+        boxes ≡ boxesFrom ns xs ys cols rows (g .n) → all ≡ each noCurves (curvesAt us vs ins outs) (g .n) → (x y : ℕ) →
+        _≡_ {A = SheetRecord}
         (record {
-          boxes = boxes′;
-          ins = ins′;
-          outs = outs′;
-          width = across′ .total;
-          height = down′ .total;
-          columns = across′ .lines;
-          rows = down′ .lines;
+          width = width;
+          height = height;
+          x = x;
+          y = y;
+          columns = right + 1;
+          rows = low + 1;
+          cuts = g .cuts;
+          count = g .n;
+          drawn = all .drawn;
+          boxes = boxes;
+          curves = all .curves;
         })
-        (frameOf (graphOf g) (g .n) cols rows)
-    unfolding frameOf
-    frame-from ins′ outs′ is-ins is-outs = rw (is-ins, is-outs, is-boxes, is-down, is-across, is-tall, is-wide, is-nodes, widths-are, heights-are)
-
-  pub laid-from : (frame : Frame) → frame ≡ frameOf (graphOf g) (g .n) cols rows → (made′ : Curves) → made′ ≡ each noCurves (curvesAt xs ys (frame .ins) (frame .outs)) (g .n) → (x y : ℕ) →
-      _≡_ {A = SheetRecord}
-      (record {
-        width = frame .width;
-        height = frame .height;
-        x = x;
-        y = y;
-        columns = frame .columns;
-        rows = frame .rows;
-        cuts = g .cuts;
-        count = g .n;
-        drawn = made′ .drawn;
-        boxes = frame .boxes;
-        curves = made′ .curves;
-      })
-      (recordOf whole x y)
-  unfolding frameOf
-  laid-from frame is-frame made′ is-made x y = rw (is-made, is-frame) (laid-is x y)
+        (recordOf whole x y)
+    unfolding recordOf sheetOf
+    laid-is right low width height boxes all is-right is-low is-width is-height is-boxes is-all x y =
+        let w : width ≡ reach 1024 cs (widths (graphOf g)) =
+        is-width ∙ rw (is-right, total-is 1024 cs (sizesIn ns 0 (g .n)) xs xs-at, widths-are) in
+        let t : height ≡ reach 2048 rs (tallnesses (graphOf g)) =
+        is-height ∙ rw (is-low, total-is 2048 rs (sizesIn ns 1 (g .n)) ys ys-at, heights-are) in
+        rw (w, t, is-right, is-low, is-boxes ∙ boxes-are, is-all ∙ curves-are, length-tabulate box 0 (length (graphOf g)), long, add-one (largest cs), add-one (largest rs))

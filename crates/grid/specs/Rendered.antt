@@ -1,11 +1,11 @@
 -- What the code holds of a node: the numbers of `RenderNode::new`.
 -- Assumes nothing.
 use Prim.Native.Nat.{ℕ, _+_, _-_, _*_, _/_, _≤_, _<_, max}
+use mathlib.Core.Path.{_≡_}
 use mathlib.Core.Bool.{cond}
-use mathlib.Core.List.{List, map}
+use mathlib.Core.List.{List, [], _∷_, map}
 use lib.Dec.{eqb, ltb}
 use lib.ListN.{length, getD}
-use Rattle.laws.specs.Lists.{tabulate, padded}
 use Rattle.graph.specs.declared.Tables.{Tables}
 use Rattle.graph.specs.Graph.{Edge, Line, Node, Graph, nodeAt}
 use Rattle.graph.specs.Tables.{Linked}
@@ -98,14 +98,14 @@ pub record Modest (r : RenderNode) : Type 0 where
   pub center-y : r .cy ≤ 200000
 
 -- ---- the boxes of a graph
-abbrev pub noRun : Run
-noRun = record { x = 0; y = 0; gap = 0 }
+-- a box's numbers as the code holds them
+abbrev pub numbersOf : RenderNode → List ℕ
+numbersOf r =
+    r .width ∷ r .height ∷ r .inputs .x ∷ r .inputs .y ∷ r .inputs .gap ∷ r .outputs .x ∷ r .outputs .y ∷ r .outputs .gap ∷ []
 
-abbrev pub noNode : RenderNode
-noNode = record { width = 0; height = 0; inputs = noRun; outputs = noRun; cx = 0; cy = 0 }
-
-abbrev pub nodesOf : Graph → ℕ → List RenderNode
-nodesOf g n = padded 48 noNode (tabulate (λ p. renderOf (nodeAt g p)) 0 n)
+-- the array has those of the first n nodes, 8 for each
+pub record Noted (g : Graph) (n : ℕ) (xs : List ℕ) : Type 0 where
+  pub number : (k : ℕ) → k < n → (i : ℕ) → i < 8 → getD xs (8 * k + i) 0 ≡ getD (numbersOf (renderOf (nodeAt g k))) i 0
 
 abbrev pub AllModest : Graph → ℕ → Type 0
 AllModest g n = (p : ℕ) → p < n → Modest (renderOf (nodeAt g p))

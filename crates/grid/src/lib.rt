@@ -119,7 +119,7 @@ fn lay_out(g: Tables, first: [u8; 48], x: u32, y: u32) -> SheetRecord
     let l = leads::leads_of(from, to, n);
     let rows = heights::heights(&l.to, &l.bounds, n);
     let cols = columns::columns(from, to, rows, first, n);
-    render_grid::laid(g, rows, cols, x, y)
+    render_grid::laid(g, &rows, &cols, x, y)
 }
 
 // Whether origin plus total is at most 8,388,608.

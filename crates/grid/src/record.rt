@@ -27,8 +27,6 @@ pub fn no_sheet() -> SheetRecord
         x1: 0,
         y1: 0,
     };
-    let boxes = [box_none; 48];
-    let curves = [curve_none; 88];
     SheetRecord {
         width: 0,
         height: 0,
@@ -39,8 +37,8 @@ pub fn no_sheet() -> SheetRecord
         cuts: 0,
         count: 0,
         drawn: 0,
-        boxes: boxes,
-        curves: curves,
+        boxes: [box_none; 48],
+        curves: [curve_none; 88],
     }
 }
 

@@ -1,9 +1,7 @@
 // The sheet, as `RenderGrid::new` has it, and its curves.
 ghost use mathlib.Core.Path.{_≡_};
-ghost use mathlib.Core.Bool.{cond};
-ghost use Prim.Native.Nat.{_<_, _≤_, max};
-ghost use lib.Dec.{eqb};
-ghost use lib.ListN.{take};
+ghost use Prim.Native.Nat.{ℕ, _+_, _<_, _≤_};
+ghost use lib.ListN.{length, getD, take, replicate};
 ghost use Rattle.laws.specs.Lists.{All};
 ghost use Rattle.laws.specs.Each.{each};
 ghost use Rattle.graph.specs.Tables.{owned, itemsOf, markOf, graphOf, Aimed};
@@ -11,34 +9,14 @@ ghost use Rattle.grid.specs.Lists.{largest};
 ghost use Rattle.grid.specs.RenderGrid.{extent as extentOf, sheetOf};
 ghost use Rattle.grid.specs.Curves.{outputAt, firstTo, outputFor, recordOf};
 ghost use Rattle.grid.specs.Rendered.{Seated};
-ghost use Rattle.grid.specs.Laid.{Bounded, beginsTo, axisOf, widthsOf, heightsOf, boxesFrom, movedRun, inputsFrom, outputsFrom, Movable, foundOf, laidOutputs, laidInputs, addAll, curveOf, curvesOver, Low, noCurves, curvesAt, frameOf};
+ghost use Rattle.grid.specs.Laid.{Bounded, sizesIn, beginsTo, boxesFrom, runAt, Movable, Low, foundOf, laidOutputs, noCurves, curvesAt};
 use crate::BoxRecord;
 use crate::Curve;
 use crate::SheetRecord;
-use crate::render_node::RenderNode;
 use crate::render_node::Run;
-use crate::render_node::larger;
 use crate::render_node::render_nodes;
 use graph::Table;
 use graph::Tables;
-
-// The columns, or the rows: where each begins, the sheet's size along them, and how many they are.
-pub struct Axis {
-    pub starts: [u32; 144],
-    pub total: u32,
-    pub lines: u8,
-}
-
-// Where all stands: the boxes, the inputs and the outputs of each, the sheet's size, and how many columns and rows it has.
-pub struct Frame {
-    pub boxes: [BoxRecord; 48],
-    pub ins: [Run; 48],
-    pub outs: [Run; 48],
-    pub width: u32,
-    pub height: u32,
-    pub columns: u8,
-    pub rows: u8,
-}
 
 // The first drawn curves.
 pub struct Curves {
@@ -53,9 +31,9 @@ pub enum Found {
 }
 
 // The largest of the first n.
-fn largest_of(xs: [u8; 48], n: usize) -> u8
-    requires { ⌜ n ≤ 48 ⌝ }
-    ensures { λ r. ⌜ r ≡ largest (take n xs) ⌝ }
+fn largest_of(xs: &[u8], n: usize) -> u8
+    requires { ⌜ n ≤ length (now xs) ⌝ }
+    ensures { λ r. ⌜ r ≡ largest (take n (now (xs .entry))) ⌝ }
 {
     let mut most: u8 = 0;
     let mut k = n;
@@ -69,112 +47,88 @@ fn largest_of(xs: [u8; 48], n: usize) -> u8
     most
 }
 
-// The larger of `most` and the size, which counts if place p is c.
-fn larger_if(p: u8, c: u8, size: u32, most: u32) -> u32
-    ensures { λ r. ⌜ r ≡ max (cond (eqb p c) size 0) most ⌝ }
-{
-    if p != c {
-        return most;
-    }
-    larger(size, most)
-}
-
-// The largest size of the boxes in line c.
-fn extent(places: [u8; 48], sizes: [u32; 48], n: usize, c: u8) -> u32
+// The largest size of the boxes in line c: their widths (field 0) or their heights (1).
+fn extent(places: &[u8; 48], nodes: &[u32; 384], field: usize, n: usize, c: u8) -> u32
     requires { ⌜ n ≤ 48 ⌝ }
-    ensures { λ r. ⌜ r ≡ extentOf (take n places) (take n sizes) c ⌝ }
+    requires { ⌜ n ≤ length (now places) ⌝ }
+    requires { ⌜ field < 8 ⌝ }
+    ensures { λ r. ⌜ r ≡ extentOf (take n (now (places .entry))) (sizesIn (now (nodes .entry)) field n) c ⌝ }
 {
     let mut most: u32 = 0;
     let mut k = n;
     while 0 < k {
         k -= 1;
-        most = larger_if(places[k], c, sizes[k], most);
+        if places[k] == c {
+            let size = nodes[8 * k + field];
+            if most < size {
+                most = size;
+            }
+        }
     }
     most
 }
 
 // Where each of so many lines begins: PAD, and before it each line's size and the gap.
-fn line_begins(places: [u8; 48], sizes: [u32; 48], n: usize, gap: u32, lines: usize) -> [u32; 144]
+fn line_begins(
+    places: &[u8; 48],
+    nodes: &[u32; 384],
+    field: usize,
+    n: usize,
+    gap: u32,
+    lines: u8,
+    starts: &mut [u32; 144],
+)
     requires { ⌜ n ≤ 48 ⌝ }
-    requires { ⌜ lines ≤ 144 ⌝ }
+    requires { ⌜ n ≤ length (now places) ⌝ }
+    requires { ⌜ field < 8 ⌝ }
     requires { ⌜ gap ≤ 2048 ⌝ }
-    requires { ⌜ Bounded 8389000 sizes n ⌝ }
-    ensures { λ r. ⌜ r ≡ beginsTo gap (take n places) (take n sizes) lines ⌝ }
+    requires { ⌜ lines ≤ 144 ⌝ }
+    requires { ⌜ All (λ s. s ≤ 8389000) (sizesIn (now nodes) field n) ⌝ }
+    requires { ⌜ now starts ≡ replicate 144 0 ⌝ }
+    ensures { λ _. ⌜ now (starts .exit) ≡ beginsTo gap (take n (now (places .entry))) (sizesIn (now (nodes .entry)) field n) lines ⌝ }
 {
-    let mut starts = [0u32; 144];
     let mut at: u32 = 128;
-    let mut c = 0usize;
+    let mut c = 0u8;
     while c < lines {
-        starts[c] = at;
-        let size = extent(places, sizes, n, c as u8);
-        at = at + size + gap;
+        starts[c as usize] = at;
+        at = at + extent(places, nodes, field, n, c) + gap;
         c += 1;
     }
-    starts
 }
 
-// The lines of boxes at these places, with these sizes.
-fn axis_of(places: [u8; 48], sizes: [u32; 48], n: usize, gap: u32) -> Axis
+// The sheet's size along lines of which this is the last.
+fn total_of(
+    places: &[u8; 48],
+    nodes: &[u32; 384],
+    field: usize,
+    n: usize,
+    last: u8,
+    starts: &[u32; 144],
+) -> u32
     requires { ⌜ n ≤ 48 ⌝ }
-    requires { ⌜ gap ≤ 2048 ⌝ }
-    requires { ⌜ Bounded 143 places n ⌝ }
-    requires { ⌜ Bounded 8389000 sizes n ⌝ }
-    ensures { λ r. ⌜ r ≡ axisOf gap (take n places) (take n sizes) ⌝ }
+    requires { ⌜ n ≤ length (now places) ⌝ }
+    requires { ⌜ field < 8 ⌝ }
+    requires { ⌜ last ≤ 143 ⌝ }
+    requires { ⌜ All (λ s. s ≤ 8389000) (sizesIn (now nodes) field n) ⌝ }
+    requires { ⌜ getD (now starts) last 0 ≤ 1250000000 ⌝ }
+    ensures { λ r. ⌜ r ≡ getD (now (starts .entry)) last 0 + extentOf (take n (now (places .entry))) (sizesIn (now (nodes .entry)) field n) last + 128 ⌝ }
 {
-    let last = largest_of(places, n);
-    let at = last as usize;
-    let starts = line_begins(places, sizes, n, gap, at + 1);
-    let size = extent(places, sizes, n, last);
-    Axis {
-        starts: starts,
-        total: starts[at] + size + 128,
-        lines: last + 1,
-    }
-}
-
-// The widths of the first n boxes.
-fn widths(nodes: [RenderNode; 48], n: usize) -> [u32; 48]
-    requires { ⌜ n ≤ 48 ⌝ }
-    ensures { λ r. ⌜ r ≡ widthsOf nodes n ⌝ }
-{
-    let mut sizes = [0u32; 48];
-    let mut k = 0usize;
-    while k < n {
-        let node = nodes[k];
-        sizes[k] = node.width;
-        k += 1;
-    }
-    sizes
-}
-
-// The heights of the first n boxes.
-fn heights(nodes: [RenderNode; 48], n: usize) -> [u32; 48]
-    requires { ⌜ n ≤ 48 ⌝ }
-    ensures { λ r. ⌜ r ≡ heightsOf nodes n ⌝ }
-{
-    let mut sizes = [0u32; 48];
-    let mut k = 0usize;
-    while k < n {
-        let node = nodes[k];
-        sizes[k] = node.height;
-        k += 1;
-    }
-    sizes
+    starts[last as usize] + extent(places, nodes, field, n, last) + 128
 }
 
 // The records of the first n boxes, where columns begin at xs and rows at ys.
 fn box_records(
-    nodes: [RenderNode; 48],
-    xs: [u32; 144],
-    ys: [u32; 144],
-    cols: [u8; 48],
-    rows: [u8; 48],
+    nodes: &[u32; 384],
+    xs: &[u32; 144],
+    ys: &[u32; 144],
+    cols: &[u8; 48],
+    rows: &[u8; 48],
     n: usize,
 ) -> [BoxRecord; 48]
     requires { ⌜ n ≤ 48 ⌝ }
-    requires { ⌜ Bounded 143 cols n ⌝ }
-    requires { ⌜ Bounded 143 rows n ⌝ }
-    ensures { λ r. ⌜ r ≡ boxesFrom nodes xs ys cols rows n ⌝ }
+    requires { ⌜ Bounded 143 (now cols) n ⌝ }
+    requires { ⌜ Bounded 143 (now rows) n ⌝ }
+    ensures { λ r. ⌜ r ≡ boxesFrom (now (nodes .entry)) (now (xs .entry)) (now (ys .entry)) (now (cols .entry)) (now (rows .entry)) n ⌝ }
 {
     let none = BoxRecord {
         x: 0,
@@ -187,14 +141,13 @@ fn box_records(
     let mut boxes = [none; 48];
     let mut k = 0usize;
     while k < n {
-        let node = nodes[k];
         let c = cols[k];
         let r = rows[k];
         boxes[k] = BoxRecord {
             x: xs[c as usize],
             y: ys[r as usize],
-            width: node.width,
-            height: node.height,
+            width: nodes[8 * k],
+            height: nodes[8 * k + 1],
             column: c,
             row: r,
         };
@@ -203,57 +156,27 @@ fn box_records(
     boxes
 }
 
-// `translate`.
-fn moved(run: Run, x: u32, y: u32) -> Run
-    requires { ⌜ run .x ≤ 8389000 ⌝ }
-    requires { ⌜ run .y ≤ 200000 ⌝ }
-    requires { ⌜ x ≤ 1250000000 ⌝ }
-    requires { ⌜ y ≤ 1250000000 ⌝ }
-    ensures { λ r. ⌜ r ≡ movedRun run x y ⌝ }
+// The inputs (from 2 on) or the outputs (from 5 on) of box k, in their final place: `translate`.
+fn run_at(
+    nodes: &[u32; 384],
+    xs: &[u32; 144],
+    ys: &[u32; 144],
+    cols: &[u8; 48],
+    rows: &[u8; 48],
+    k: usize,
+    from: usize,
+) -> Run
+    requires { ⌜ k < 48 ⌝ }
+    requires { ⌜ from ≤ 5 ⌝ }
+    requires { ⌜ Movable (now nodes) (now xs) (now ys) (now cols) (now rows) from k ⌝ }
+    ensures { λ r. ⌜ r ≡ runAt (now (nodes .entry)) (now (xs .entry)) (now (ys .entry)) (now (cols .entry)) (now (rows .entry)) from k ⌝ }
 {
+    let i = 8 * k + from;
     Run {
-        x: run.x + x,
-        y: run.y + y,
-        gap: run.gap,
+        x: nodes[i] + xs[cols[k] as usize],
+        y: nodes[i + 1] + ys[rows[k] as usize],
+        gap: nodes[i + 2],
     }
-}
-
-// The inputs of the first n boxes, in their final places.
-fn inputs(nodes: [RenderNode; 48], boxes: [BoxRecord; 48], n: usize) -> [Run; 48]
-    requires { ⌜ n ≤ 48 ⌝ }
-    requires { ⌜ Movable nodes boxes n ⌝ }
-    ensures { λ r. ⌜ r ≡ inputsFrom nodes boxes n ⌝ }
-{
-    let mut runs = [Run { x: 0, y: 0, gap: 0 }; 48];
-    let mut k = 0usize;
-    while k < n {
-        let node = nodes[k];
-        let place = boxes[k];
-        let run = node.inputs;
-        let next = moved(run, place.x, place.y);
-        runs[k] = next;
-        k += 1;
-    }
-    runs
-}
-
-// The outputs of the first n boxes, in their final places.
-fn outputs(nodes: [RenderNode; 48], boxes: [BoxRecord; 48], n: usize) -> [Run; 48]
-    requires { ⌜ n ≤ 48 ⌝ }
-    requires { ⌜ Movable nodes boxes n ⌝ }
-    ensures { λ r. ⌜ r ≡ outputsFrom nodes boxes n ⌝ }
-{
-    let mut runs = [Run { x: 0, y: 0, gap: 0 }; 48];
-    let mut k = 0usize;
-    while k < n {
-        let node = nodes[k];
-        let place = boxes[k];
-        let run = node.outputs;
-        let next = moved(run, place.x, place.y);
-        runs[k] = next;
-        k += 1;
-    }
-    runs
 }
 
 // The output point of q's sink number m.
@@ -314,65 +237,24 @@ fn output_for(t: Table, q: u8, mark: u8, k: u8, run: Run) -> Found
     marked_output(t, q, mark - 1, run)
 }
 
-// The curves with one more, if the output was found. (There are at most as many as sources.)
-fn with_curve(s: Curves, found: Found, y0: u32, x1: u32, y1: u32) -> Curves
-    ensures { λ r. ⌜ r ≡ addAll s (curveOf found y0 x1 y1) ⌝ }
-{
-    match found {
-        Found::At(x0) => {
-            let at = s.drawn as usize;
-            if 88 <= at {
-                return s;
-            }
-            let mut next = s;
-            next.curves[at] = Curve {
-                x0: x0,
-                y0: y0,
-                x1: x1,
-                y1: y1,
-            };
-            next.drawn = s.drawn + 1;
-            next
-        }
-        Found::Nothing => s,
-    }
-}
-
-// The curves with those to box k, whose inputs are laid as `into`.
-fn curves_to(s: Curves, sources: Table, sinks: Table, outs: [Run; 48], into: Run, k: u8) -> Curves
-    requires { ⌜ sources .count ≤ 88 ⌝ }
-    requires { ⌜ sinks .count ≤ 88 ⌝ }
-    requires { ⌜ Low into ⌝ }
-    requires { ⌜ All Low outs ⌝ }
-    requires { ⌜ Aimed 48 (itemsOf sources) ⌝ }
-    ensures { λ r. ⌜ r ≡ addAll s (curvesOver (itemsOf sinks) outs k (laidInputs into (owned k (itemsOf sources)))) ⌝ }
-{
-    let mut all = s;
-    let mut x = into.x;
-    let mut j = 0usize;
-    while j < sources.count {
-        let e = sources.items[j];
-        j += 1;
-        if e.owner == k {
-            let wx = 128 * (e.len as u32);
-            let run = outs[e.to as usize];
-            let found = output_for(sinks, e.to, e.mark, k, run);
-            all = with_curve(all, found, run.y, x + wx / 2, into.y);
-            x = x + wx + into.gap;
-        }
-    }
-    all
-}
-
 // The curves of the first n boxes.
-fn all_curves(sources: Table, sinks: Table, ins: [Run; 48], outs: [Run; 48], n: usize) -> Curves
+fn all_curves(
+    sources: Table,
+    sinks: Table,
+    nodes: &[u32; 384],
+    xs: &[u32; 144],
+    ys: &[u32; 144],
+    cols: &[u8; 48],
+    rows: &[u8; 48],
+    n: usize,
+) -> Curves
     requires { ⌜ n ≤ 48 ⌝ }
     requires { ⌜ sources .count ≤ 88 ⌝ }
     requires { ⌜ sinks .count ≤ 88 ⌝ }
-    requires { ⌜ All Low ins ⌝ }
-    requires { ⌜ All Low outs ⌝ }
-    requires { ⌜ Aimed 48 (itemsOf sources) ⌝ }
-    ensures { λ r. ⌜ r ≡ each noCurves (curvesAt (itemsOf sources) (itemsOf sinks) ins outs) n ⌝ }
+    requires { ⌜ ((k : ℕ) → k < n → Movable (now nodes) (now xs) (now ys) (now cols) (now rows) 2 k) ⌝ }
+    requires { ⌜ ((k : ℕ) → k < n → Movable (now nodes) (now xs) (now ys) (now cols) (now rows) 5 k) ⌝ }
+    requires { ⌜ Aimed n (itemsOf sources) ⌝ }
+    ensures { λ r. ⌜ r ≡ each noCurves (curvesAt (itemsOf sources) (itemsOf sinks) (runAt (now (nodes .entry)) (now (xs .entry)) (now (ys .entry)) (now (cols .entry)) (now (rows .entry)) 2) (runAt (now (nodes .entry)) (now (xs .entry)) (now (ys .entry)) (now (cols .entry)) (now (rows .entry)) 5)) n ⌝ }
 {
     let none = Curve {
         x0: 0,
@@ -386,65 +268,64 @@ fn all_curves(sources: Table, sinks: Table, ins: [Run; 48], outs: [Run; 48], n: 
     };
     let mut k = 0usize;
     while k < n {
-        let into = ins[k];
-        all = curves_to(all, sources, sinks, outs, into, k as u8);
+        let into = run_at(nodes, xs, ys, cols, rows, k, 2);
+        let mut x = into.x;
+        let mut j = 0usize;
+        while j < sources.count {
+            let e = sources.items[j];
+            j += 1;
+            if e.owner as usize == k {
+                let wx = 128 * (e.len as u32);
+                let run = run_at(nodes, xs, ys, cols, rows, e.to as usize, 5);
+                let found = output_for(sinks, e.to, e.mark, k as u8, run);
+                if let Found::At(x0) = found {
+                    let at = all.drawn as usize;
+                    if at < 88 {
+                        all.curves[at] = Curve {
+                            x0: x0,
+                            y0: run.y,
+                            x1: x + wx / 2,
+                            y1: into.y,
+                        };
+                        all.drawn += 1;
+                    }
+                }
+                x = x + wx + into.gap;
+            }
+        }
         k += 1;
     }
     all
 }
 
-// Where all stands that the graph has, with these columns and rows.
-fn frame_of(g: Tables, rows: [u8; 48], cols: [u8; 48]) -> Frame
+// The sheet of the graph with these columns and rows, at an origin. (The numbers that are many stand in arrays that are lent, for the memory.)
+pub fn laid(g: Tables, rows: &[u8; 48], cols: &[u8; 48], x: u32, y: u32) -> SheetRecord
     requires { ⌜ Seated g ⌝ }
-    requires { ⌜ Bounded 47 rows (g .n) ⌝ }
-    requires { ⌜ Bounded 143 cols (g .n) ⌝ }
-    ensures { λ r. ⌜ (r ≡ frameOf (graphOf g) (g .n) cols rows) × (All Low (r .ins) × All Low (r .outs)) ⌝ }
+    requires { ⌜ Bounded 47 (now rows) (g .n) ⌝ }
+    requires { ⌜ Bounded 143 (now cols) (g .n) ⌝ }
+    ensures { λ r. ⌜ r ≡ recordOf (sheetOf (graphOf g) (g .cuts) (take (g .n) (now (cols .entry))) (take (g .n) (now (rows .entry)))) x y ⌝ }
 {
     let n = g.n;
-    let nodes = render_nodes(g);
-    let wide = widths(nodes, n);
-    let tall = heights(nodes, n);
-    let across = axis_of(cols, wide, n, 1024);
-    let down = axis_of(rows, tall, n, 2048);
-    let xs = across.starts;
-    let ys = down.starts;
-    let boxes = box_records(nodes, xs, ys, cols, rows, n);
-    let ins = inputs(nodes, boxes, n);
-    let outs = outputs(nodes, boxes, n);
-    Frame {
-        boxes: boxes,
-        ins: ins,
-        outs: outs,
-        width: across.total,
-        height: down.total,
-        columns: across.lines,
-        rows: down.lines,
-    }
-}
-
-// The sheet of the graph with these columns and rows, at an origin.
-pub fn laid(g: Tables, rows: [u8; 48], cols: [u8; 48], x: u32, y: u32) -> SheetRecord
-    requires { ⌜ Seated g ⌝ }
-    requires { ⌜ Bounded 47 rows (g .n) ⌝ }
-    requires { ⌜ Bounded 143 cols (g .n) ⌝ }
-    ensures { λ r. ⌜ r ≡ recordOf (sheetOf (graphOf g) (g .cuts) (take (g .n) cols) (take (g .n) rows)) x y ⌝ }
-{
-    let n = g.n;
-    let frame = frame_of(g, rows, cols);
+    let mut nodes = [0u32; 384];
+    render_nodes(g, &mut nodes);
+    let last_column = largest_of(cols, n);
+    let last_row = largest_of(rows, n);
+    let mut xs = [0u32; 144];
+    let mut ys = [0u32; 144];
+    line_begins(cols, &nodes, 0, n, 1024, last_column + 1, &mut xs);
+    line_begins(rows, &nodes, 1, n, 2048, last_row + 1, &mut ys);
     let sources = g.sources;
     let sinks = g.sinks;
-    let ins = frame.ins;
-    let outs = frame.outs;
-    let drawn = all_curves(sources, sinks, ins, outs, n);
-    let boxes = frame.boxes;
+    let drawn = all_curves(sources, sinks, &nodes, &xs, &ys, cols, rows, n);
+    let boxes = box_records(&nodes, &xs, &ys, cols, rows, n);
     let list = drawn.curves;
     SheetRecord {
-        width: frame.width,
-        height: frame.height,
+        width: total_of(cols, &nodes, 0, n, last_column, &xs),
+        height: total_of(rows, &nodes, 1, n, last_row, &ys),
         x: x,
         y: y,
-        columns: frame.columns,
-        rows: frame.rows,
+        columns: last_column + 1,
+        rows: last_row + 1,
         cuts: g.cuts,
         count: n as u8,
         drawn: drawn.drawn,

@@ -5,10 +5,11 @@ ghost use mathlib.Core.List.{_++_, map};
 ghost use Prim.Native.Nat.{_+_, _-_, _*_, _<_, _≤_, max};
 ghost use lib.Dec.{eqb, ltb};
 ghost use lib.ListN.{length};
+ghost use lib.Seq.{sets};
 ghost use Rattle.chart.specs.Tables.{ownedLines, linesOf};
 ghost use Rattle.graph.specs.Graph.{given};
 ghost use Rattle.graph.specs.Tables.{owned, itemsOf, numberLine, graphOf};
-ghost use Rattle.grid.specs.Rendered.{endsOf, centerOf, gapFrom, firstFrom, linesFrom, textFrom, emptyFrom, innerFrom, renderFrom, Modest, nodesOf, AllModest, Seated};
+ghost use Rattle.grid.specs.Rendered.{endsOf, centerOf, gapFrom, firstFrom, linesFrom, textFrom, emptyFrom, innerFrom, renderFrom, Modest, numbersOf, Noted, AllModest, Seated};
 use chart::Lines;
 use graph::Table;
 use graph::Tables;
@@ -43,7 +44,7 @@ pub struct RenderNode {
 }
 
 // The larger of two.
-pub fn larger(a: u32, b: u32) -> u32
+fn larger(a: u32, b: u32) -> u32
     ensures { λ r. ⌜ r ≡ max a b ⌝ }
 {
     if a < b { b } else { a }
@@ -203,34 +204,41 @@ pub fn render_node(a: Ends, c: Center, b: Ends) -> RenderNode
     }
 }
 
-// The boxes of all nodes, before `translate`.
-pub fn render_nodes(g: Tables) -> [RenderNode; 48]
+// Box p's numbers stand from 8 p on: its width and its height, its inputs and its outputs.
+fn note(nodes: &mut [u32; 384], p: usize, node: RenderNode)
+    requires { ⌜ p < 48 ⌝ }
+    ensures { λ _. ⌜ now (nodes .exit) ≡ sets (now (nodes .entry)) (8 * p) (numbersOf node) ⌝ }
+{
+    let i = 8 * p;
+    let a = node.inputs;
+    let b = node.outputs;
+    nodes[i] = node.width;
+    nodes[i + 1] = node.height;
+    nodes[i + 2] = a.x;
+    nodes[i + 3] = a.y;
+    nodes[i + 4] = a.gap;
+    nodes[i + 5] = b.x;
+    nodes[i + 6] = b.y;
+    nodes[i + 7] = b.gap;
+}
+
+// The numbers of all boxes, before `translate`.
+pub fn render_nodes(g: Tables, nodes: &mut [u32; 384])
     requires { ⌜ Seated g ⌝ }
-    ensures { λ r. ⌜ (r ≡ nodesOf (graphOf g) (g .n)) × AllModest (graphOf g) (g .n) ⌝ }
+    requires { ⌜ length (now nodes) ≡ 384 ⌝ }
+    ensures { λ _. ⌜ Noted (graphOf g) (g .n) (now (nodes .exit)) × AllModest (graphOf g) (g .n) ⌝ }
 {
     let names = g.names;
     let lines = g.lines;
     let sources = g.sources;
     let sinks = g.sinks;
-    let none = Run { x: 0, y: 0, gap: 0 };
-    let blank = RenderNode {
-        width: 0,
-        height: 0,
-        inputs: none,
-        outputs: none,
-        cx: 0,
-        cy: 0,
-    };
-    let mut nodes = [blank; 48];
     let mut p = 0usize;
     while p < g.n {
         let q = p as u8;
         let a = ends_of(sources, q);
         let c = center_of(lines, names[p], q);
         let b = ends_of(sinks, q);
-        let node = render_node(a, c, b);
-        nodes[p] = node;
+        note(nodes, p, render_node(a, c, b));
         p += 1;
     }
-    nodes
 }

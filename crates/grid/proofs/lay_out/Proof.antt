@@ -62,22 +62,23 @@ columns-requires c κs =
 
 laid-requires : tie.Need-laid-requires
 laid-requires c κs =
-    let h = c .before in
+    let h = c .before .before .before in
+    let k = c .before .before .columns in
     let d = known h .before .ends-of .ensures in
     let e = known h .ends-of2 .ensures in (
       s h .pre .0,
       (
         rows-bounded (t h) (sources-long (s h)) (sinks-long (s h)) (s h .pre .0) _ _ d e (h .heights .result) (rows h),
-        cols-bounded (t h) (sources-long (s h)) (sinks-long (s h)) (s h .pre .0) _ _ d e (h .heights .result) (rows h) (s h .args .first) (s h .pre .1) (c .columns .result) (c .columns .ensures),
+        cols-bounded (t h) (sources-long (s h)) (sinks-long (s h)) (s h .pre .0) _ _ d e (h .heights .result) (rows h) (s h .args .first) (s h .pre .1) (k .result) (k .ensures),
       ),
     )
 
 returns : tie.Need-returns
 returns c =
-    let h = c .before .before in
+    let h = c .before .before .before .before in
     let d = known h .before .ends-of .ensures in
     let e = known h .ends-of2 .ensures in
-    let k = c .before .columns in
+    let k = c .before .before .before .columns in
     c .laid .ensures
     ∙ ap (λ (sh : Sheet). recordOf sh (s h .args .x) (s h .args .y)) (laid-is (t h) (sources-long (s h)) (sinks-long (s h)) (s h .pre .0) _ _ d e (h .heights .result) (rows h) (s h .args .first) (s h .pre .1) (k .result) (k .ensures))
 

@@ -1,51 +1,183 @@
--- `render_grid::laid`: the frame and the curves are those of the definition's sheet.
+-- `render_grid::laid`: what the leaves make, one after the other, is the definition's.
 -- Assumes nothing.
-use Prim.Native.Nat.{_-_, _<_, _≤_}
-use mathlib.Core.Path.{_≡_, ap}
-use mathlib.Core.List.{map}
+use Prim.Native.Nat.{ℕ, _<_, _≤_}
+use mathlib.Core.Path.{_≡_, refl}
+use mathlib.Core.List.{List}
 use native.Mathlib.Omega.{arith}
-use lib.ListN.{length}
-use Rattle.laws.proofs.Lists.{all-map}
-use Rattle.graph.specs.declared.Item.{Item}
-use Rattle.graph.specs.Tables.{itemsOf}
-use Rattle.grid.specs.Laid.{Bounded}
-use Rattle.grid.proofs.SheetLaws.{laid-from}
+use lib.ListN.{length, take, getD}
+use Rattle.laws.specs.Lists.{All}
+use Rattle.graph.specs.Tables.{graphOf}
+use Rattle.grid.specs.Lists.{largest}
+use Rattle.grid.specs.RenderGrid.{begins}
+use Rattle.grid.specs.Rendered.{Noted, AllModest}
+use Rattle.grid.specs.Laid.{Bounded, sizesIn, Movable}
+use Rattle.grid.proofs.LaidLaws.{begins-le}
+use Rattle.grid.proofs.SheetLaws.{begun, small-widths, small-heights, last-column, last-row, inputs-move, outputs-move, laid-is}
 use borrow.Author.Needs.{needs}
 use Rattle.grid.proofs.render_grid.laid.Statement.{statement}
 use Rattle.grid.proofs.render_grid.laid.Tie as tie
 
-module _ (z : tie.Start) where
-  cols-room : z .args .g .n ≤ length (z .args .cols)
-  cols-room = let e : length (z .args .cols) ≡ 48 = search needs in omega (arith, z .pre .0 .linked .nodes)
+-- once the last column and the last row are found; lent as slices, both arrays showed that they have 48
+module _ (c : tie.After-largest-of2) where
+  abbrev z : tie.Start
+  z = c .before .before .before .before .before .before
 
-  rows-room : z .args .g .n ≤ length (z .args .rows)
-  rows-room = let e : length (z .args .rows) ≡ 48 = search needs in omega (arith, z .pre .0 .linked .nodes)
+  abbrev cols : List ℕ
+  cols = z .args .cols .now
 
-  low-rows : Bounded 143 (z .args .rows) (z .args .g .n)
+  abbrev rows : List ℕ
+  rows = z .args .rows .now
+
+  abbrev ns : List ℕ
+  ns = c .before .before .before .before .render-nodes .last .1 .0
+
+  cols-room : z .args .g .n ≤ length cols
+  cols-room = let e : length cols ≡ 48 = search needs in omega (arith, z .pre .0 .linked .nodes)
+
+  rows-room : z .args .g .n ≤ length rows
+  rows-room = let e : length rows ≡ 48 = search needs in omega (arith, z .pre .0 .linked .nodes)
+
+  low-rows : Bounded 143 rows (z .args .g .n)
   low-rows = record { most = λ k h. omega (arith, z .pre .1 .0 .most k h) }
 
-frame-of-requires : tie.Need-frame-of-requires
-frame-of-requires c κs = search needs
+  noted : Noted (graphOf (z .args .g)) (z .args .g .n) ns
+  noted = c .before .before .before .before .render-nodes .ensures .0
+
+  modest : AllModest (graphOf (z .args .g)) (z .args .g .n)
+  modest = c .before .before .before .before .render-nodes .ensures .1
+
+  right-le : c .before .before .largest-of .result ≤ 143
+  right-le = omega (arith, c .before .before .largest-of .ensures, last-column (z .args .g) (z .pre .0) cols rows cols-room rows-room (z .pre .1 .1) low-rows ns noted)
+
+  low-le : c .largest-of2 .result ≤ 143
+  low-le = omega (arith, c .largest-of2 .ensures, last-row (z .args .g) (z .pre .0) cols rows cols-room rows-room (z .pre .1 .1) low-rows ns noted)
+
+  wide : All (λ s. s ≤ 8389000) (sizesIn ns 0 (z .args .g .n))
+  wide = small-widths (z .args .g) (z .pre .0) cols rows cols-room rows-room (z .pre .1 .1) low-rows ns noted modest
+
+  tall : All (λ s. s ≤ 8389000) (sizesIn ns 1 (z .args .g .n))
+  tall = small-heights (z .args .g) (z .pre .0) cols rows cols-room rows-room (z .pre .1 .1) low-rows ns noted modest
+
+-- once the lines are stored
+module _ (b : tie.After-line-begins2) where
+  abbrev a : tie.After-largest-of2
+  a = b .before .before .before .before .before .before
+
+  abbrev n : ℕ
+  n = z a .args .g .n
+
+  abbrev right : ℕ
+  right = a .before .before .largest-of .result
+
+  abbrev low : ℕ
+  low = a .largest-of2 .result
+
+  abbrev xs : List ℕ
+  xs = b .before .before .before .line-begins .last .1 .1 .1 .1 .1 .1 .0
+
+  abbrev ys : List ℕ
+  ys = b .line-begins2 .last .1 .1 .1 .1 .1 .1 .0
+
+  xs-at : (d : ℕ) → d ≤ largest (take n (cols a)) → getD xs d 0 ≡ begins 1024 (take n (cols a)) (sizesIn (ns a) 0 n) d
+  xs-at = begun 1024 (take n (cols a)) (sizesIn (ns a) 0 n) xs right (a .before .before .largest-of .ensures) (right-le a) (b .before .before .before .line-begins .ensures)
+
+  ys-at : (d : ℕ) → d ≤ largest (take n (rows a)) → getD ys d 0 ≡ begins 2048 (take n (rows a)) (sizesIn (ns a) 1 n) d
+  ys-at = begun 2048 (take n (rows a)) (sizesIn (ns a) 1 n) ys low (a .largest-of2 .ensures) (low-le a) (b .line-begins2 .ensures)
+
+  inputs-small : (k : ℕ) → k < n → Movable (ns a) xs ys (cols a) (rows a) 2 k
+  inputs-small = inputs-move (z a .args .g) (z a .pre .0) (cols a) (rows a) (cols-room a) (rows-room a) (z a .pre .1 .1) (low-rows a) (ns a) (noted a) xs ys xs-at ys-at (modest a)
+
+  outputs-small : (k : ℕ) → k < n → Movable (ns a) xs ys (cols a) (rows a) 5 k
+  outputs-small = outputs-move (z a .args .g) (z a .pre .0) (cols a) (rows a) (cols-room a) (rows-room a) (z a .pre .1 .1) (low-rows a) (ns a) (noted a) xs ys xs-at ys-at (modest a)
+
+  last-x : getD xs right 0 ≤ 1250000000
+  last-x = omega (arith, xs-at right (omega (arith, a .before .before .largest-of .ensures)), begins-le 1024 (take n (cols a)) (sizesIn (ns a) 0 n) (omega arith) (wide a) right, right-le a)
+
+  last-y : getD ys low 0 ≤ 1250000000
+  last-y = omega (arith, ys-at low (omega (arith, a .largest-of2 .ensures)), begins-le 2048 (take n (rows a)) (sizesIn (ns a) 1 n) (omega arith) (tall a) low, low-le a)
+
+render-nodes-requires : tie.Need-render-nodes-requires
+render-nodes-requires c κs = search needs
+
+largest-of-requires : tie.Need-largest-of-requires
+largest-of-requires c κs = search needs
+
+largest-of-requires-2 : tie.Need-largest-of-requires-2
+largest-of-requires-2 c κs = search needs
+
+add-line-begins : tie.Need-add-line-begins
+add-line-begins c = omega (arith, right-le (c .before))
+
+line-begins-requires : tie.Need-line-begins-requires
+line-begins-requires c κs =
+    let a = c .before .before in
+    (z a .pre .0 .linked .nodes, (cols-room a, (omega arith, (omega arith, (omega (arith, right-le a), (wide a, refl))))))
+
+add-line-begins-2 : tie.Need-add-line-begins-2
+add-line-begins-2 c = omega (arith, low-le (c .before .before .before .before))
+
+line-begins-requires-2 : tie.Need-line-begins-requires-2
+line-begins-requires-2 c κs =
+    let a = c .before .before .before .before .before in
+    (z a .pre .0 .linked .nodes, (rows-room a, (omega arith, (omega arith, (omega (arith, low-le a), (tall a, refl))))))
 
 all-curves-requires : tie.Need-all-curves-requires
 all-curves-requires c κs =
-    let z = c .before .before .before .before .before in
-    let k = z .pre .0 .linked in
-    let f = c .before .before .before .before .frame-of .ensures .1 in (
-      k .nodes,
-      (
-        k .source-room,
-        (k .sink-room, (f .0, (f .1, all-map (λ (x : Item) (h : x .to < z .args .g .n). omega (arith, k .nodes)) (itemsOf (z .args .g .sources)) (k .source-aims)))),
-      ),
-    )
+    let b = c .before .before .before .before .before in
+    let k = z (a b) .pre .0 .linked in
+    (k .nodes, (k .source-room, (k .sink-room, (inputs-small b, (outputs-small b, k .source-aims)))))
 
-cast-t15 : tie.Need-cast-t15
-cast-t15 c = omega (arith, c .before .before .before .before .before .before .before .before .pre .0 .linked .nodes)
+box-records-requires : tie.Need-box-records-requires
+box-records-requires c κs =
+    let d = a (c .before .before .before .before .before .before .before .before .before) in
+    (z d .pre .0 .linked .nodes, (z d .pre .1 .1, low-rows d))
+
+total-of-requires : tie.Need-total-of-requires
+total-of-requires c κs =
+    let b = c .before .before .before .before .before .before .before .before .before .before .before .before .before in
+    let d = a b in
+    (z d .pre .0 .linked .nodes, (cols-room d, (omega arith, (right-le d, (wide d, last-x b)))))
+
+total-of-requires-2 : tie.Need-total-of-requires-2
+total-of-requires-2 c κs =
+    let b = c .before .before .before .before .before .before .before .before .before .before .before .before .before .before .before .before in
+    let d = a b in
+    (z d .pre .0 .linked .nodes, (rows-room d, (omega arith, (low-le d, (tall d, last-y b)))))
+
+add-t24 : tie.Need-add-t24
+add-t24 c = omega (arith, right-le (a (c .before .before .before .before .before .before .before .before .before .before .before .before .before .before .before .before .before)))
+
+add-t40 : tie.Need-add-t40
+add-t40 c = omega (arith, low-le (a (c .before .before .before .before .before .before .before .before .before .before .before .before .before .before .before .before .before)))
+
+cast-t41 : tie.Need-cast-t41
+cast-t41 c = omega (arith, z (a (c .before .before .before .before .before .before .before .before .before .before .before .before .before .before .before .before .before)) .pre .0 .linked .nodes)
 
 returns : tie.Need-returns
 returns c =
-    let z = c .before .before .before .before .before .before .before .before in
-    laid-from (z .args .g) (z .pre .0) (z .args .cols) (z .args .rows) (cols-room z) (rows-room z) (z .pre .1 .1) (low-rows z) (c .before .before .before .before .before .before .before .frame-of .result) (c .before .before .before .before .before .before .before .frame-of .ensures .0) (c .before .before .all-curves .result) (c .before .before .all-curves .ensures) (z .args .x) (z .args .y)
+    let b = c .before .before .before .before .before .before .before .before .before .before .before .before .before .before .before .before .before in
+    let d = a b in
+    laid-is (z d .args .g) (z d .pre .0) (cols d) (rows d) (cols-room d) (rows-room d) (z d .pre .1 .1) (low-rows d) (ns d) (noted d) (xs b) (ys b) (xs-at b) (ys-at b)
+    (right b) (low b) (c .before .before .before .total-of .result) (c .total-of2 .result) (c .before .before .before .before .before .before .before .box-records .result) (c .before .before .before .before .before .before .before .before .before .before .before .all-curves .result)
+    (d .before .before .largest-of .ensures) (d .largest-of2 .ensures) (c .before .before .before .total-of .ensures) (c .total-of2 .ensures) (c .before .before .before .before .before .before .before .box-records .ensures) (c .before .before .before .before .before .before .before .before .before .before .before .all-curves .ensures)
+    (z d .args .x) (z d .args .y)
 
 pub laid-spec : {M : Type 1} → statement M
-laid-spec = tie.close (tie.spec frame-of-requires all-curves-requires cast-t15 returns)
+laid-spec =
+    tie.close
+    (tie.spec
+    render-nodes-requires
+    largest-of-requires
+    largest-of-requires-2
+    add-line-begins
+    line-begins-requires
+    add-line-begins-2
+    line-begins-requires-2
+    all-curves-requires
+    box-records-requires
+    total-of-requires
+    total-of-requires-2
+    add-t24
+    add-t40
+    cast-t41
+    returns)
