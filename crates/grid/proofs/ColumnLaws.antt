@@ -10,16 +10,16 @@ use mathlib.Core.Option.{Option, none, some}
 use mathlib.Core.Bool.{Bool, true, false, cond, _&&_, true≢false}
 use mathlib.Core.List.{List, [], _∷_}
 use lib.Dec.{eqb, ltb}
-use lib.ListN.{length, set, length-set, length-map, List·getD-eq-default}
+use lib.ListN.{length, set, length-set, length-map}
 use lib.Seq.{getD-set-same, getD-set-other}
 use borrow.Author.Tests.{eq-eqb, lt-ltb, ltb-true}
-use Rattle.laws.proofs.Tests.{less?, same?}
+use Rattle.laws.proofs.Tests.{less?, same?, pick}
 use Rattle.graph.specs.Shape.{Shape}
 use Rattle.laws.specs.Each.{each}
 use Rattle.grid.specs.Lists.{largest, smallest}
-use Rattle.grid.specs.Columns.{at, taken, incidents, columnsOf, target, goTo, firstMove, firstMoves, clash, collision, extra, newColumns, renamed, pairsFrom, table, foldFrom, mean, nearer, rightOf, rightEnd, leftEnd, clamp, averageOne, average, round, columns}
+use Rattle.grid.specs.Columns.{at, taken, incidents, columnsOf, target, goTo, firstMove, firstMoves, clash, collision, extra, newColumns, renamed, pairsFrom, table, foldFrom, mean, nearer, rightOf, rightEnd, leftEnd, clamp, averageTo, averageOne, average, round, columns}
 use Rattle.grid.specs.Placed.{Placed, FirstColumns}
-use Rattle.grid.proofs.ListLaws.{or-right, at-largest, smallest-le, at-map}
+use Rattle.grid.proofs.ListLaws.{or-right, at-largest, smallest-le, at-map, everywhere, store-below}
 use Rattle.laws.proofs.Each.{keeps}
 
 -- a box's own place is taken
@@ -34,18 +34,45 @@ taken-at (y ∷ rows) (c ∷ cols) (suc i) r x h k e f =
 pub first-placed : (n : ℕ) (rows first : List ℕ) → FirstColumns n first → Placed n (2 * n) rows first
 first-placed n rows first f = record { long = f .long; below = f .below; apart = λ i j hi hj r e. f .distinct i j hi hj e }
 
+-- b is above every column, a box's or not
+abbrev pub Below : ℕ → List ℕ → Type 0
+Below b cols = (q : ℕ) → at cols q < b
+
+module _ (b : ℕ) (cols : List ℕ) (s : Below b cols) where
+  ends-below : (qs : List ℕ) → largest (columnsOf cols qs) < b
+  ends-below [] = omega (arith, s 0)
+  ends-below (q ∷ qs) = omega (arith, s q, ends-below qs)
+
+  pick-below : (t u : Bool) (x y z : ℕ) → x ≤ b → y ≤ b → z ≤ b → cond t x (cond u y z) < suc b
+  pick-below true u x y z hx hy hz = omega arith
+  pick-below false true x y z hx hy hz = omega arith
+  pick-below false false x y z hx hy hz = omega arith
+
+  -- where the first move of node p goes
+  goal-below : (g : Shape) (p : ℕ) → let xs = columnsOf cols (incidents g p) in target (at cols p) (smallest (largest xs) xs) (largest xs) < suc b
+  goal-below g p =
+      let xs : List ℕ = columnsOf cols (incidents g p) in
+      let low : ℕ = smallest (largest xs) xs in
+      let high : ℕ = largest xs in
+      let h = ends-below (incidents g p) in
+      pick-below (ltb (at cols p + 2) low) (ltb low (at cols p) && ltb high (at cols p - 2)) (low + 1) (high - 1) (at cols p)
+      (omega (arith, smallest-le high xs)) (omega arith) (omega (arith, s p))
+
+  pub move-below : (g : Shape) (rows : List ℕ) (p : ℕ) → Below (suc b) (firstMove g rows p cols)
+  move-below g rows p q =
+      let xs : List ℕ = columnsOf cols (incidents g p) in
+      let x : ℕ = target (at cols p) (smallest (largest xs) xs) (largest xs) in
+      let stay : at cols q < suc b = omega (arith, s q) in
+      pick (λ (l : List ℕ). at l q < suc b) (ltb (length xs) 2) cols (goTo rows p x cols) stay
+      (pick (λ (l : List ℕ). at l q < suc b) (taken rows cols (at rows p) x) cols (set cols p x) stay (store-below cols p x (suc b) q (goal-below g p) stay))
+
 -- n boxes with their rows; b is above every column
 module _ (n : ℕ) (rows : List ℕ) (tall : length rows ≡ n) where
   pub wider : (b c : ℕ) (cols : List ℕ) → b ≤ c → Placed n b rows cols → Placed n c rows cols
   wider b c cols h s = record { long = s .long; below = λ k l. omega (arith, s .below k l); apart = s .apart }
 
-  -- no number's column is b or more, a box's or not
-  pub all-below : (b : ℕ) (cols : List ℕ) → 0 < b → Placed n b rows cols → (q : ℕ) → at cols q < b
-  all-below b cols z s q = go (less? q n)
-    where
-      go : (q < n) ⊎ (n ≤ q) → at cols q < b
-      go (inl h) = s .below q h
-      go (inr h) = let e : at cols q ≡ 0 = List·getD-eq-default cols 0 (omega (arith, s .long)) in omega arith
+  pub all-below : (b : ℕ) (cols : List ℕ) → 0 < b → Placed n b rows cols → Below b cols
+  all-below b cols z s = everywhere cols n b z (omega (arith, s .long)) (s .below)
 
   -- box p goes to column x, where no other box of its row is
   module _ (b c : ℕ) (cols : List ℕ) (s : Placed n b rows cols) (p x : ℕ) (hp : p < n) (hx : x < c) (hb : b ≤ c)
@@ -55,13 +82,6 @@ module _ (n : ℕ) (rows : List ℕ) (tall : length rows ≡ n) where
 
     other : (j : ℕ) → (j ≡ p → ⊥) → at (set cols p x) j ≡ at cols j
     other j o = getD-set-other cols p j x 0 o
-
-    set-below : (k : ℕ) → k < n → at (set cols p x) k < c
-    set-below k h = go (same? k p)
-      where
-        go : (k ≡ p) ⊎ (k ≡ p → ⊥) → at (set cols p x) k < c
-        go (inl e) = rw (e, there) hx
-        go (inr o) = rw (other k o) (omega (arith, s .below k h))
 
     set-apart : (i j : ℕ) → i < n → j < n → at rows i ≡ at rows j → at (set cols p x) i ≡ at (set cols p x) j → i ≡ j
     set-apart i j hi hj r e = go (same? i p) (same? j p)
@@ -73,13 +93,10 @@ module _ (n : ℕ) (rows : List ℕ) (tall : length rows ≡ n) where
         go (inr o) (inr q) = s .apart i j hi hj r (sym (other i o) ∙ e ∙ other j q)
 
     pub set-placed : Placed n c rows (set cols p x)
-    set-placed = record { long = length-set cols p x ∙ s .long; below = set-below; apart = set-apart }
+    set-placed = record { long = length-set cols p x ∙ s .long; below = λ k h. store-below cols p x c k hx (omega (arith, s .below k h)); apart = set-apart }
 
   -- the first move of one node
   module _ (b : ℕ) (cols : List ℕ) (s : Placed n b rows cols) (p : ℕ) (hp : p < n) where
-    some-room : 0 < b
-    some-room = omega (arith, s .below p hp)
-
     pub go-placed : (x : ℕ) → x < suc b → Placed n (suc b) rows (goTo rows p x cols)
     go-placed x hx = go (taken rows cols (at rows p) x) refl
       where
@@ -89,32 +106,12 @@ module _ (n : ℕ) (rows : List ℕ) (tall : length rows ≡ n) where
             set-placed b (suc b) cols s p x hp hx (omega arith)
             (λ j h o r q. true≢false (sym (taken-at rows cols j (at rows p) x (omega arith) (omega (arith, s .long)) r q) ∙ e))
 
-    ends-below : (qs : List ℕ) → largest (columnsOf cols qs) < b
-    ends-below [] = some-room
-    ends-below (q ∷ qs) = omega (arith, all-below b cols some-room s q, ends-below qs)
-
-    pick-below : (t u : Bool) (x y z : ℕ) → x ≤ b → y ≤ b → z ≤ b → cond t x (cond u y z) < suc b
-    pick-below true u x y z hx hy hz = omega arith
-    pick-below false true x y z hx hy hz = omega arith
-    pick-below false false x y z hx hy hz = omega arith
-
-    target-below : (low high : ℕ) → low < b → high < b → target (at cols p) low high < suc b
-    target-below low high hl hh =
-        pick-below (ltb (at cols p + 2) low) (ltb low (at cols p) && ltb high (at cols p - 2)) (low + 1) (high - 1) (at cols p)
-        (omega arith) (omega arith) (omega (arith, s .below p hp))
-
     pub move-placed : (g : Shape) → Placed n (suc b) rows (firstMove g rows p cols)
     move-placed g =
-        go (ltb (length xs) 2)
-      where
-        xs : List ℕ
-        xs = columnsOf cols (incidents g p)
-
-        go : (t : Bool) → Placed n (suc b) rows (cond t cols (goTo rows p (target (at cols p) (smallest (largest xs) xs) (largest xs)) cols))
-        go true = wider b (suc b) cols (omega arith) s
-        go false =
-            go-placed (target (at cols p) (smallest (largest xs) xs) (largest xs))
-            (target-below (smallest (largest xs) xs) (largest xs) (omega (arith, smallest-le (largest xs) xs, ends-below (incidents g p))) (ends-below (incidents g p)))
+        let xs : List ℕ = columnsOf cols (incidents g p) in
+        let x : ℕ = target (at cols p) (smallest (largest xs) xs) (largest xs) in
+        pick (Placed n (suc b) rows) (ltb (length xs) 2) cols (goTo rows p x cols) (wider b (suc b) cols (omega arith) s)
+        (go-placed x (goal-below b cols (all-below b cols (omega (arith, s .below p hp)) s) g p))
 
   -- the first moves: each of the n nodes may take the largest column one further
   pub moved-placed : (g : Shape) (cols : List ℕ) → Placed n (2 * n) rows cols → (k : ℕ) → k ≤ n → Placed n (2 * n + k) rows (each cols (firstMove g rows) k)
@@ -216,6 +213,12 @@ module _ (rows cols : List ℕ) where
 
   pub table1-folds : Folds rows cols (table 1 rows cols)
   table1-folds = record { cover = omega (arith, new-length (extra rows cols) (pairsFrom 1 cols) 1 1); most = most1; same = same1 }
+
+-- the columns go by a table
+pub fold-below : (b : ℕ) (rows cols table : List ℕ) → Folds rows cols table → Below b cols → Below b (renamed table cols)
+fold-below b rows cols table f s =
+    everywhere (renamed table cols) (length cols) b (omega (arith, s 0)) (omega (arith, length-map cols (at table)))
+    (λ q h. rw (at-map (at table) cols q 0 h) (omega (arith, f .most (at cols q) (omega (arith, f .cover, at-largest cols q h)), s q)))
 
 -- n boxes with their rows; b is above every column
 module _ (n b : ℕ) (rows : List ℕ) (tall : length rows ≡ n) (cols : List ℕ) (s : Placed n b rows cols) where
@@ -357,6 +360,18 @@ module _ (r x : ℕ) where
 pub ends-ordered : (rows cols : List ℕ) (r x : ℕ) → leftEnd rows cols r x ≤ rightEnd x (rightOf rows cols r x)
 ends-ordered rows cols r x = omega (arith, left-most r x rows cols, end-least r x (rightOf rows cols r x) (right-beyond r x rows cols))
 
+-- the place between the neighbours is below b
+module _ (b : ℕ) (rows cols : List ℕ) (s : Below b cols) where
+  end-below : (r x : ℕ) → x < b → rightEnd x (rightOf rows cols r x) < b
+  end-below r x h = end-under r x b (rightOf rows cols r x) h (right-under r x b rows cols (λ k l. s k))
+
+  pub average-below : (p w : ℕ) → Below b (averageTo rows p w cols)
+  average-below p w q =
+      let r : ℕ = at rows p in
+      let x : ℕ = at cols p in
+      store-below cols p (clamp (leftEnd rows cols r x) (rightEnd x (rightOf rows cols r x)) w) b q
+      (omega (arith, left-most r x rows cols, end-below r x (s p), s p)) (s q)
+
 -- the averaging of one node
 module _ (n b : ℕ) (rows : List ℕ) (tall : length rows ≡ n) (cols : List ℕ) (s : Placed n b rows cols) (p : ℕ) (hp : p < n) where
   r : ℕ
@@ -381,8 +396,7 @@ module _ (n b : ℕ) (rows : List ℕ) (tall : length rows ≡ n) (cols : List �
 
   high-below : high < b
   unfolding high x
-  high-below =
-      end-under r x b (rightOf rows cols r x) (s .below p hp) (right-under r x b rows cols (λ k l. s .below k (omega (arith, s .long))))
+  high-below = end-below b rows cols (all-below n rows tall b cols (omega (arith, s .below p hp)) s) r x (s .below p hp)
 
   -- whatever is wanted between the two ends, no other box of the row is there
   free : (w j : ℕ) → j < n → (j ≡ p → ⊥) → at rows j ≡ r → at cols j ≡ clamp low high w → ⊥

@@ -9,42 +9,34 @@ use mathlib.Core.Logic.{_⊎_, inl, inr}
 use mathlib.Core.Bool.{Bool, true, false, _&&_, _||_}
 use mathlib.Core.List.{List, [], _∷_, _++_, map, append-assoc, append-nil}
 use lib.Dec.{eqb}
-use lib.ListN.{length, getD, set, take, drop, replicate, length-set, length-map, drop-of-length-le, List·getD-append}
-use lib.Seq.{getD-set-same, getD-set-other, drop-cons, getD-take, length-take-le, take-suc-set, ext-getD}
+use lib.ListN.{length, getD, set, take, drop, replicate, length-take, length-set, drop-of-length-le}
+use lib.Seq.{getD-set-same, getD-set-other, getD-take, take-suc-set, ext-getD}
 use borrow.Author.Tests.{eq-eqb, ne-eqb}
-use Rattle.laws.proofs.Tests.{and-false, or-assoc, same?}
+use Rattle.laws.proofs.Tests.{and-false, or-false, or-assoc, same?}
 use Rattle.laws.proofs.Lists.{length-tabulate, getD-tabulate, take-replicate}
 use Rattle.grid.specs.Lists.{largest}
 use Rattle.grid.specs.Columns.{at, taken, clash, collision, extra, newColumns, pairsFrom, table, foldFrom}
-use Rattle.grid.specs.Arrays.{Boxes, inColumn, tableTo, nextNew}
-use Rattle.grid.proofs.ListLaws.{or-right, at-largest, largest-below, at-map}
-use Rattle.grid.proofs.ColumnLaws.{Folds}
+use Rattle.grid.specs.Arrays.{inColumn, tableTo, nextNew}
+use Rattle.grid.proofs.ListLaws.{or-right, at-largest, largest-below}
+use Rattle.grid.proofs.ColumnLaws.{taken-at}
 
 -- the largest from j on, of the first n
-pub largest-more : (xs : List ℕ) (n j : ℕ) → j < n → n ≤ length xs → largest (drop j (take n xs)) ≡ max (at xs j) (largest (drop (suc j) (take n xs)))
-largest-more xs n j h l =
-    ap largest (drop-cons (take n xs) j 0 (omega (arith, length-take-le n xs l)))
-    ∙ ap (λ (z : ℕ). max z (largest (drop (suc j) (take n xs)))) (getD-take n xs j 0 h)
+largest-more : (xs : List ℕ) (n j : ℕ) → j < n → largest (drop j (take n xs)) ≡ max (at xs j) (largest (drop (suc j) (take n xs)))
+largest-more xs zero j h = absurd (not-suc-le-zero h)
+largest-more [] (suc n) zero h = refl
+largest-more [] (suc n) (suc j) h = refl
+largest-more (x ∷ xs) (suc n) zero h = refl
+largest-more (x ∷ xs) (suc n) (suc j) h = largest-more xs n j (le-of-suc-le-suc h)
 
 -- a loop that counts k down from n
-module _ (xs : List ℕ) (n : ℕ) (l : n ≤ length xs) where
+module _ (xs : List ℕ) (n : ℕ) where
   pub largest-end : 0 ≡ largest (drop n (take n xs))
-  largest-end = let m : length (take n xs) ≤ n = omega (arith, length-take-le n xs l) in sym (ap largest (drop-of-length-le (take n xs) m))
+  largest-end = let m : length (take n xs) ≤ n = omega (arith, length-take n xs) in sym (ap largest (drop-of-length-le (take n xs) m))
 
-  down : (k : ℕ) → 0 < k → k ≤ n → largest (drop (k - 1) (take n xs)) ≡ max (at xs (k - 1)) (largest (drop k (take n xs)))
-  down k z h =
+  pub largest-down : (k : ℕ) → 0 < k → k ≤ n → largest (drop (k - 1) (take n xs)) ≡ max (at xs (k - 1)) (largest (drop k (take n xs)))
+  largest-down k z h =
       let e : suc (k - 1) ≡ k = omega arith in
-      largest-more xs n (k - 1) (omega arith) l ∙ ap (λ (i : ℕ). max (at xs (k - 1)) (largest (drop i (take n xs)))) e
-
-  pub largest-new : (k most x : ℕ) → 0 < k → k ≤ n → most ≡ largest (drop k (take n xs)) → x ≡ at xs (k - 1) → most < x → x ≡ largest (drop (k - 1) (take n xs))
-  largest-new k most x z h e f g = omega (arith, down k z h)
-
-  pub largest-old : (k most x : ℕ) → 0 < k → k ≤ n → most ≡ largest (drop k (take n xs)) → x ≡ at xs (k - 1) → x ≤ most → most ≡ largest (drop (k - 1) (take n xs))
-  largest-old k most x z h e f g = omega (arith, down k z h)
-
-or-false : (b : Bool) → (b || false) ≡ b
-or-false true = refl
-or-false false = refl
+      largest-more xs n (k - 1) (omega arith) ∙ ap (λ (i : ℕ). max (at xs (k - 1)) (largest (drop i (take n xs)))) e
 
 -- one box more
 taken-more : (rows cols : List ℕ) (k r x : ℕ) → k < length rows → k < length cols →
@@ -56,11 +48,23 @@ taken-more (y ∷ rows) (c ∷ cols) (suc k) r x h l =
     ap (λ (b : Bool). (eqb y r && eqb c x) || b) (taken-more rows cols k r x (le-of-suc-le-suc h) (le-of-suc-le-suc l))
     ∙ or-assoc (eqb y r && eqb c x) (taken (take k rows) (take k cols) r x) (eqb (at rows k) r && eqb (at cols k) x)
 
-pub in-column-at : (rows cols : List ℕ) (x r : ℕ) → r < 48 → getD (inColumn rows cols x) r false ≡ taken rows cols r x
+-- box k is the first that has row r and column x, or is not
+module _ (rows cols : List ℕ) (k r x : ℕ) (h : k < length rows) (l : k < length cols) (e : taken (take k rows) (take k cols) r x ≡ false) where
+  pub other-row : (at rows k ≡ r → ⊥) → taken (take (k + 1) rows) (take (k + 1) cols) r x ≡ false
+  other-row o = rw (add-one k, taken-more rows cols k r x h l, e, ne-eqb (at rows k) r o)
+
+  pub other-column : eqb (at cols k) x ≡ false → taken (take (k + 1) rows) (take (k + 1) cols) r x ≡ false
+  other-column o = rw (add-one k, taken-more rows cols k r x h l, e, o) (and-false (eqb (at rows k) r))
+
+pub taken-there : (rows cols : List ℕ) (n k r x : ℕ) → n ≤ length rows → n ≤ length cols → k < n → at rows k ≡ r → at cols k ≡ x → true ≡ taken (take n rows) (take n cols) r x
+taken-there rows cols n k r x lr lc h e f =
+    sym (taken-at (take n rows) (take n cols) k r x (omega (arith, length-take n rows)) (omega (arith, length-take n cols)) (getD-take n rows k 0 h ∙ e) (getD-take n cols k 0 h ∙ f))
+
+in-column-at : (rows cols : List ℕ) (x r : ℕ) → r < 48 → getD (inColumn rows cols x) r false ≡ taken rows cols r x
 unfolding inColumn
 in-column-at rows cols x r h = getD-tabulate (λ q. taken rows cols q x) 0 48 r false h ∙ ap (λ (q : ℕ). taken rows cols q x) (zero-add r)
 
-pub in-column-long : (rows cols : List ℕ) (x : ℕ) → length (inColumn rows cols x) ≡ 48
+in-column-long : (rows cols : List ℕ) (x : ℕ) → length (inColumn rows cols x) ≡ 48
 unfolding inColumn
 in-column-long rows cols x = length-tabulate (λ q. taken rows cols q x) 0 48
 
@@ -173,14 +177,21 @@ table-none start more h =
     let z : start + 0 ≡ start = omega arith in
     rw z (take-replicate start 146 0 (omega arith) ∙ sym (append-nil (replicate start 0)))
 
--- the columns of one box more go by the table
-pub renamed-more : (f : ℕ → ℕ) (cols : List ℕ) (k : ℕ) → k < length cols →
-    set (map f (take k cols) ++ drop k cols) k (f (at cols k)) ≡ map f (take (k + 1) cols) ++ drop (k + 1) cols
-renamed-more f [] k h = absurd (not-suc-le-zero h)
-renamed-more f (c ∷ cols) zero h = refl
-renamed-more f (c ∷ cols) (suc k) h =
-    let e : suc k + 1 ≡ suc (k + 1) = omega arith in
-    rw e (ap (λ (l : List ℕ). f c ∷ l) (renamed-more f cols k (le-of-suc-le-suc h)))
+-- the first k columns went by the table: the next one, and its store
+pub renamed-at : (f : ℕ → ℕ) (cols : List ℕ) (k : ℕ) → at (map f (take k cols) ++ drop k cols) k ≡ at cols k
+renamed-at f [] zero = refl
+renamed-at f [] (suc k) = refl
+renamed-at f (c ∷ cols) zero = refl
+renamed-at f (c ∷ cols) (suc k) = renamed-at f cols k
+
+renamed-suc : (f : ℕ → ℕ) (cols : List ℕ) (k : ℕ) → set (map f (take k cols) ++ drop k cols) k (f (at cols k)) ≡ map f (take (suc k) cols) ++ drop (suc k) cols
+renamed-suc f [] zero = refl
+renamed-suc f [] (suc k) = refl
+renamed-suc f (c ∷ cols) zero = refl
+renamed-suc f (c ∷ cols) (suc k) = ap (λ (l : List ℕ). f c ∷ l) (renamed-suc f cols k)
+
+pub renamed-more : (f : ℕ → ℕ) (cols : List ℕ) (k : ℕ) → set (map f (take k cols) ++ drop k cols) k (f (at cols k)) ≡ map f (take (k + 1) cols) ++ drop (k + 1) cols
+renamed-more f cols k = renamed-suc f cols k ∙ ap (λ (i : ℕ). map f (take i cols) ++ drop i cols) (sym (add-one k))
 
 -- two tables that agree where the columns are
 pub renamed-same : (f g : ℕ → ℕ) (cols : List ℕ) → ((k : ℕ) → k < length cols → f (at cols k) ≡ g (at cols k)) → map f cols ≡ map g cols
@@ -198,25 +209,5 @@ fold-is rows cols start pairs l h e f =
     ∙ ap (λ (t : List ℕ). at t (at cols k)) (f ∙ ap (λ (q : ℕ). tableTo start q (extra rows cols)) e))
 
 -- the largest of the first n
-pub first-below : (xs : List ℕ) (n b : ℕ) → n ≤ length xs → 0 < b → ((k : ℕ) → k < n → at xs k < b) → largest (take n xs) < b
-first-below xs n b l z h =
-    let e = length-take-le n xs l in
-    largest-below (take n xs) b z (λ k g. let m : k < n = omega (arith, e) in rw (getD-take n xs k 0 m) (h k m))
-
--- after a fold the columns are columns still
-pub fold-boxes : (n start : ℕ) (rows cols : List ℕ) → n ≤ length cols → (f : Folds (take n rows) (take n cols) (table start (take n rows) (take n cols))) →
-    Boxes n rows cols → Boxes n rows (foldFrom start (take n rows) (take n cols) ++ drop n cols)
-unfolding foldFrom
-fold-boxes n start rows cols l f z =
-    record {
-      few = z .few;
-      row = z .row;
-      column = λ k h.
-          let t : List ℕ = table start (take n rows) (take n cols) in
-          let e = length-take-le n cols l in
-          let here : k < length (map (at t) (take n cols)) = omega (arith, length-map (take n cols) (at t)) in
-          let c : at (take n cols) k ≡ at cols k = getD-take n cols k 0 h in
-          let inside : at cols k < length t = omega (arith, f .cover, at-largest (take n cols) k (omega arith)) in
-          rw (List·getD-append (map (at t) (take n cols)) (drop n cols) 0 k here, at-map (at t) (take n cols) k 0 (omega arith), c)
-          (omega (arith, f .most (at cols k) inside, z .column k h));
-    }
+pub first-below : (xs : List ℕ) (n b : ℕ) → 0 < b → ((k : ℕ) → k < n → at xs k < b) → largest (take n xs) < b
+first-below xs n b z h = largest-below (take n xs) b z (λ k g. let m : k < n = omega (arith, length-take n xs) in rw (getD-take n xs k 0 m) (h k m))

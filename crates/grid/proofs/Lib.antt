@@ -6,6 +6,7 @@ pub mod FoldLaws
 pub mod AverageLaws
 pub mod EndsLaws
 pub mod LeadLaws
+pub mod PartLaws
 pub mod SignedLaws
 pub mod WalkLaws
 pub mod WalkSteps

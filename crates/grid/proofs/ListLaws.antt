@@ -3,13 +3,12 @@
 use Prim.Native.Nat.{ℕ, zero, suc, _≤_, _<_}
 use native.Mathlib.Omega.{arith}
 use native.Mathlib.Nat.{le-of-suc-le-suc, not-suc-le-zero}
-use mathlib.Core.Path.{_≡_, refl}
+use mathlib.Core.Path.{_≡_, refl, ap, sym}
 use mathlib.Core.Logic.{_⊎_, inl, inr}
 use mathlib.Core.Bool.{Bool, true, false, _||_}
-use mathlib.Core.List.{List, [], _∷_, map}
-use lib.Dec.{eqb, ltb}
-use lib.ListN.{length, getD}
-use borrow.Author.Tests.{eqb-true, eqb-false, ltb-true, ltb-false}
+use mathlib.Core.List.{List, [], _∷_, _++_, map}
+use lib.ListN.{length, getD, set, take, drop, take-append-drop, List·getD-eq-default}
+use lib.Seq.{getD-set-same, getD-set-other, set-out}
 use Rattle.laws.proofs.Tests.{less?, same?}
 use Rattle.grid.specs.Lists.{largest, smallest}
 use Rattle.grid.specs.Columns.{at}
@@ -40,3 +39,45 @@ pub at-map : {A : Type 0} (f : A → ℕ) (xs : List A) (k : ℕ) (d : A) → k 
 at-map f [] k d h = absurd (not-suc-le-zero h)
 at-map f (x ∷ xs) zero d h = refl
 at-map f (x ∷ xs) (suc k) d h = at-map f xs k d (le-of-suc-le-suc h)
+
+-- the first n are below b, and the list has no more: so is what is read past its end
+pub everywhere : (xs : List ℕ) (n b : ℕ) → 0 < b → length xs ≤ n → ((k : ℕ) → k < n → at xs k < b) → (q : ℕ) → at xs q < b
+everywhere xs n b z l h q = go (less? q n)
+  where
+    go : (q < n) ⊎ (n ≤ q) → at xs q < b
+    go (inl k) = h q k
+    go (inr k) = let e : at xs q ≡ 0 = List·getD-eq-default xs 0 (omega arith) in omega arith
+
+-- ---- the first n of an array, and the rest
+-- a store within the first n
+pub set-first : (xs : List ℕ) (n p v : ℕ) → p < n → set xs p v ≡ set (take n xs) p v ++ drop n xs
+set-first xs zero p v h = absurd (not-suc-le-zero h)
+set-first [] (suc n) p v h = refl
+set-first (x ∷ xs) (suc n) zero v h = ap (λ (l : List ℕ). v ∷ l) (sym (take-append-drop n xs))
+set-first (x ∷ xs) (suc n) (suc p) v h = ap (λ (l : List ℕ). x ∷ l) (set-first xs n p v (le-of-suc-le-suc h))
+
+-- the first n are replaced by as many
+pub front-take : (n : ℕ) (now new : List ℕ) → length new ≡ length (take n now) → take n (new ++ drop n now) ≡ new
+front-take zero now [] e = refl
+front-take zero now (y ∷ new) e = absurd (omega arith)
+front-take (suc n) [] [] e = refl
+front-take (suc n) [] (y ∷ new) e = absurd (omega arith)
+front-take (suc n) (x ∷ now) [] e = absurd (omega arith)
+front-take (suc n) (x ∷ now) (y ∷ new) e = ap (λ (l : List ℕ). y ∷ l) (front-take n now new (omega arith))
+
+pub front-drop : (n : ℕ) (now new : List ℕ) → length new ≡ length (take n now) → drop n (new ++ drop n now) ≡ drop n now
+front-drop zero now [] e = refl
+front-drop zero now (y ∷ new) e = absurd (omega arith)
+front-drop (suc n) [] [] e = refl
+front-drop (suc n) [] (y ∷ new) e = absurd (omega arith)
+front-drop (suc n) (x ∷ now) [] e = absurd (omega arith)
+front-drop (suc n) (x ∷ now) (y ∷ new) e = front-drop n now new (omega arith)
+
+-- a store of v, below b
+pub store-below : (xs : List ℕ) (p v b k : ℕ) → v < b → at xs k < b → at (set xs p v) k < b
+store-below xs p v b k h l = go (same? k p) (less? p (length xs))
+  where
+    go : (k ≡ p) ⊎ (k ≡ p → ⊥) → (p < length xs) ⊎ (length xs ≤ p) → at (set xs p v) k < b
+    go (inl e) (inl m) = rw (e, getD-set-same xs p v 0 m) h
+    go (inl e) (inr m) = rw (set-out xs p v m) l
+    go (inr o) d = rw (getD-set-other xs p k v 0 o) l

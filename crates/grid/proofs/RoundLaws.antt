@@ -2,128 +2,162 @@
 -- Assumes nothing.
 use Prim.Native.Nat.{ℕ, _+_, _-_, _*_, _≤_, _<_}
 use native.Mathlib.Omega.{arith}
-use mathlib.Core.Path.{_≡_, ap, sym, _∙_}
+use mathlib.Core.Path.{_≡_, refl, ap, sym, _∙_}
 use mathlib.Core.List.{List, _++_}
-use lib.ListN.{length, take, drop, replicate, length-map, take-append-drop}
-use lib.Seq.{getD-take, length-take-le, take-at, drop-at, length-front}
+use lib.Dec.{ltb}
+use lib.ListN.{length, set, take, drop, replicate, length-take, length-set, length-map, take-append-drop}
+use lib.Seq.{getD-take, length-take-le, take-at}
 use Rattle.laws.specs.Each.{each}
-use Rattle.laws.proofs.Each.{next}
+use Rattle.laws.proofs.Each.{next, keeps}
+use Rattle.laws.proofs.Tests.{pick}
 use Rattle.graph.specs.Shape.{Shape}
-use Rattle.grid.specs.Columns.{at, firstMove, firstMoves, table, foldFrom, average, round, columns}
-use Rattle.grid.specs.Placed.{Placed, FirstColumns}
+use Rattle.grid.specs.Lists.{largest, smallest}
+use Rattle.grid.specs.Columns.{at, taken, columnsOf, incidents, target, goTo, firstMove, firstMoves, table, foldFrom, averageOne, mean, average, round, columns}
+use Rattle.grid.specs.Placed.{FirstColumns}
 use Rattle.grid.specs.Arrays.{Boxes, Inside}
-use Rattle.grid.proofs.ColumnLaws.{table0-folds, table1-folds, first-placed, moved-placed, rounds-placed, columns-placed}
 use Rattle.grid.specs.Heights.{heights}
+use Rattle.grid.proofs.ListLaws.{everywhere, front-take, front-drop}
+use Rattle.grid.proofs.ColumnLaws.{Below, move-below, fold-below, average-below, table0-folds, table1-folds, first-placed, columns-placed}
 use Rattle.grid.proofs.HeightLaws.{heights-long, heights-below}
-use Rattle.grid.proofs.FoldLaws.{fold-boxes}
 
--- an array whose first n are replaced
-module _ (n : ℕ) (now new result : List ℕ) (few : n ≤ length now) (l : length new ≡ n) (e : result ≡ new ++ drop n now) where
-  pub front-take : take n result ≡ new
-  front-take = ap (take n) e ∙ take-at new (drop n now) n l
+-- ---- a loop whose step p is f p on the first n of an array, which stay as many
+module _ (n : ℕ) (f : ℕ → List ℕ → List ℕ) (same : (p : ℕ) (l : List ℕ) → length (f p l) ≡ length l) (first : List ℕ) where
+  module _ (p : ℕ) (now after : List ℕ) (et : take n now ≡ each (take n first) f p) (ed : drop n now ≡ drop n first) (e : after ≡ f p (take n now) ++ drop n now) where
+    pub step-take : take n after ≡ each (take n first) f (p + 1)
+    step-take = ap (take n) e ∙ front-take n now (f p (take n now)) (same p (take n now)) ∙ ap (f p) et ∙ sym (next (take n first) f p)
 
-  pub front-drop : drop n result ≡ drop n now
-  front-drop = ap (drop n) e ∙ drop-at new (drop n now) n l
+    pub step-drop : drop n after ≡ drop n first
+    step-drop = ap (drop n) e ∙ front-drop n now (f p (take n now)) (same p (take n now)) ∙ ed
 
-  pub front-long : length result ≡ length now
-  front-long = ap (λ (x : List ℕ). length x) e ∙ length-front now new n (l ∙ sym (length-take-le n now few))
+  pub steps-whole : (k : ℕ) (now : List ℕ) → take n now ≡ each (take n first) f k → drop n now ≡ drop n first → now ≡ each (take n first) f k ++ drop n first
+  steps-whole k now et ed = sym (take-append-drop n now) ∙ cc (et, ed)
 
-fold-long : (x n : ℕ) (rows cols : List ℕ) → n ≤ length cols → length (foldFrom x rows (take n cols)) ≡ n
-unfolding foldFrom
-fold-long x n rows cols l = length-map (take n cols) (at (table x rows (take n cols))) ∙ length-take-le n cols l
+each-same : (f : ℕ → List ℕ → List ℕ) → ((p : ℕ) (l : List ℕ) → length (f p l) ≡ length l) → (l : List ℕ) (k : ℕ) → length (each l f k) ≡ length l
+each-same f same l k = keeps (λ p u. length u ≡ length l) l f refl k (λ p u h e. same p u ∙ e)
 
--- one round: two folds and the averaging
-module _ (n : ℕ) (rows cols once twice : List ℕ) (few : n ≤ length cols)
-    (e : once ≡ foldFrom 0 (take n rows) (take n cols) ++ drop n cols) (f : twice ≡ foldFrom 1 (take n rows) (take n once) ++ drop n once) where
-  once-take : take n once ≡ foldFrom 0 (take n rows) (take n cols)
-  once-take = front-take n cols (foldFrom 0 (take n rows) (take n cols)) once few (fold-long 0 n (take n rows) cols few) e
+module _ (g : Shape) (rows : List ℕ) where
+  pub move-same : (p : ℕ) (cols : List ℕ) → length (firstMove g rows p cols) ≡ length cols
+  move-same p cols =
+      let xs : List ℕ = columnsOf cols (incidents g p) in
+      let x : ℕ = target (at cols p) (smallest (largest xs) xs) (largest xs) in
+      pick (λ (l : List ℕ). length l ≡ length cols) (ltb (length xs) 2) cols (goTo rows p x cols) refl
+      (pick (λ (l : List ℕ). length l ≡ length cols) (taken rows cols (at rows p) x) cols (set cols p x) refl (length-set cols p x))
 
-  once-drop : drop n once ≡ drop n cols
-  once-drop = front-drop n cols (foldFrom 0 (take n rows) (take n cols)) once few (fold-long 0 n (take n rows) cols few) e
-
-  once-few : n ≤ length once
-  once-few = omega (arith, front-long n cols (foldFrom 0 (take n rows) (take n cols)) once few (fold-long 0 n (take n rows) cols few) e)
-
-  twice-take : take n twice ≡ foldFrom 1 (take n rows) (take n once)
-  twice-take = front-take n once (foldFrom 1 (take n rows) (take n once)) twice once-few (fold-long 1 n (take n rows) once once-few) f
-
-  twice-drop : drop n twice ≡ drop n once
-  twice-drop = front-drop n once (foldFrom 1 (take n rows) (take n once)) twice once-few (fold-long 1 n (take n rows) once once-few) f
-
-  pub once-boxes : Boxes n rows cols → Boxes n rows once
-  once-boxes b = rw e (fold-boxes n 0 rows cols few (table0-folds (take n rows) (take n cols)) b)
-
-  pub twice-boxes : Boxes n rows cols → Boxes n rows twice
-  twice-boxes b = rw f (fold-boxes n 1 rows once once-few (table1-folds (take n rows) (take n once)) (once-boxes b))
-
-  pub round-is : (g : Shape) (r : List ℕ) → r ≡ average g (take n rows) (take n twice) ++ drop n twice → r ≡ round g (take n rows) (take n cols) ++ drop n cols
-  round-is g r h =
-      h ∙ ap (λ (u : List ℕ). average g (take n rows) u ++ drop n twice) (twice-take ∙ ap (foldFrom 1 (take n rows)) once-take)
-      ∙ ap (λ (u : List ℕ). round g (take n rows) (take n cols) ++ u) (twice-drop ∙ once-drop)
-
--- boxes in their places have columns below 144
-pub placed-boxes : (n b : ℕ) (rows cols : List ℕ) → n ≤ 48 → b ≤ 144 → Inside n 48 rows → Placed n b (take n rows) (take n cols) → Boxes n rows cols
-placed-boxes n b rows cols few h r p =
-    record {
-      few = few;
-      row = r .below;
-      column = λ k l. let e = getD-take n cols k 0 l in omega (arith, p .below k l, e);
-    }
-
-module _ (n : ℕ) (g : Shape) (long : length g ≡ n) (rows first : List ℕ) (few : n ≤ 48) (lr : n ≤ length rows) (inside : Inside n 48 rows) (f : FirstColumns n (take n first)) where
-  tall : length (take n rows) ≡ n
-  tall = length-take-le n rows lr
-
-  begun : Placed n (2 * n) (take n rows) (take n first)
-  begun = first-placed n (take n rows) (take n first) f
-
-  -- p nodes have moved
-  module _ (p : ℕ) (now : List ℕ) (hp : p ≤ n) (e : take n now ≡ each (take n first) (firstMove g (take n rows)) p) where
-    moved-here : Placed n (2 * n + p) (take n rows) (take n now)
-    moved-here = rw e (moved-placed n (take n rows) tall g (take n first) begun p hp)
-
-    pub moved-boxes : Boxes n rows now
-    moved-boxes = placed-boxes n (2 * n + p) rows now few (omega arith) inside moved-here
-
-    pub moved-next : firstMove g (take n rows) p (take n now) ≡ each (take n first) (firstMove g (take n rows)) (p + 1)
-    moved-next = ap (firstMove g (take n rows) p) e ∙ sym (next (take n first) (firstMove g (take n rows)) p)
-
-  pub moved-long : (p : ℕ) → p ≤ n → length (each (take n first) (firstMove g (take n rows)) p) ≡ n
-  moved-long p h = moved-placed n (take n rows) tall g (take n first) begun p h .long
-
-  pub moved-all : (now : List ℕ) → take n now ≡ each (take n first) (firstMove g (take n rows)) n → drop n now ≡ drop n first →
-      now ≡ firstMoves g (take n rows) (take n first) ++ drop n first
+  moves-same : (cols : List ℕ) → length (firstMoves g rows cols) ≡ length cols
   unfolding firstMoves
-  moved-all now e d = sym (take-append-drop n now) ∙ cc (e ∙ ap (each (take n first) (firstMove g (take n rows))) (sym long), d)
+  moves-same cols = each-same (firstMove g rows) move-same cols (length g)
 
-  -- k rounds are done
-  abbrev pub rounds : ℕ → List ℕ
-  rounds k = each (firstMoves g (take n rows) (take n first)) (λ i. round g (take n rows)) k
+  fold-same : (x : ℕ) (cols : List ℕ) → length (foldFrom x rows cols) ≡ length cols
+  unfolding foldFrom
+  fold-same x cols = length-map cols (at (table x rows cols))
 
-  rounds-here : (k : ℕ) → Placed n (3 * n) (take n rows) (rounds k)
-  rounds-here k = rounds-placed n (take n rows) tall g long (take n first) begun k
+  pub average-same : (p : ℕ) (cols : List ℕ) → length (averageOne g rows p cols) ≡ length cols
+  average-same p cols = length-set cols p _
 
-  pub rounds-long : (k : ℕ) → length (rounds k) ≡ n
-  rounds-long k = rounds-here k .long
+  pub round-same : (k : ℕ) (cols : List ℕ) → length (round g rows cols) ≡ length cols
+  unfolding average
+  round-same k cols =
+      each-same (averageOne g rows) average-same (foldFrom 1 rows (foldFrom 0 rows cols)) (length g)
+      ∙ fold-same 1 (foldFrom 0 rows cols) ∙ fold-same 0 cols
 
-  pub rounds-boxes : (k : ℕ) (now : List ℕ) → take n now ≡ rounds k → Boxes n rows now
-  rounds-boxes k now e = placed-boxes n (3 * n) rows now few (omega arith) inside (rw e (rounds-here k))
+  -- columns below b stay so
+  fold0-below : (b : ℕ) (cols : List ℕ) → Below b cols → Below b (foldFrom 0 rows cols)
+  unfolding foldFrom
+  fold0-below b cols = fold-below b rows cols (table 0 rows cols) (table0-folds rows cols)
 
-  -- where the first moves leave the array
-  pub begun-take : (now : List ℕ) → n ≤ length first → now ≡ firstMoves g (take n rows) (take n first) ++ drop n first → take n now ≡ firstMoves g (take n rows) (take n first)
-  unfolding each
-  begun-take now l e = front-take n first (firstMoves g (take n rows) (take n first)) now l (rounds-long 0) e
+  fold1-below : (b : ℕ) (cols : List ℕ) → Below b cols → Below b (foldFrom 1 rows cols)
+  unfolding foldFrom
+  fold1-below b cols = fold-below b rows cols (table 1 rows cols) (table1-folds rows cols)
 
-  pub begun-drop : (now : List ℕ) → n ≤ length first → now ≡ firstMoves g (take n rows) (take n first) ++ drop n first → drop n now ≡ drop n first
-  unfolding each
-  begun-drop now l e = front-drop n first (firstMoves g (take n rows) (take n first)) now l (rounds-long 0) e
+  averages-below : (b : ℕ) (cols : List ℕ) → Below b cols → (k : ℕ) → Below b (each cols (averageOne g rows) k)
+  averages-below b cols s k = keeps (λ p u. Below b u) cols (averageOne g rows) s k (λ p u h t. average-below b rows u t p (mean (columnsOf u (incidents g p))))
 
-  pub rounds-next : (k : ℕ) (now : List ℕ) → take n now ≡ rounds k → round g (take n rows) (take n now) ≡ rounds (k + 1)
-  rounds-next k now e = ap (round g (take n rows)) e ∙ sym (next (firstMoves g (take n rows) (take n first)) (λ i. round g (take n rows)) k)
+  round-below : (b : ℕ) (cols : List ℕ) → Below b cols → Below b (round g rows cols)
+  unfolding average
+  round-below b cols s = averages-below b (foldFrom 1 rows (foldFrom 0 rows cols)) (fold1-below b (foldFrom 0 rows cols) (fold0-below b cols s)) (length g)
 
-  pub rounds-all : (now : List ℕ) → take n now ≡ rounds 8 → drop n now ≡ drop n first → now ≡ columns g (take n rows) (take n first) ++ drop n first
-  unfolding columns
-  rounds-all now e d = sym (take-append-drop n now) ∙ cc (e, d)
+-- ---- n boxes
+module _ (n : ℕ) (rows : List ℕ) where
+  boxes-of : n ≤ 48 → ((k : ℕ) → k < n → at rows k < 48) → (now : List ℕ) → Below 144 (take n now) → Boxes n rows now
+  boxes-of few r now s = record { few = few; row = r; column = λ k h. let e = getD-take n now k 0 h in omega (arith, s k) }
+
+  below-of : (cols : List ℕ) → Boxes n rows cols → Below 144 (take n cols)
+  below-of cols z = everywhere (take n cols) n 144 (omega arith) (omega (arith, length-take n cols)) (λ k h. rw (getD-take n cols k 0 h) (z .column k h))
+
+  module _ (cols : List ℕ) (z : Boxes n rows cols) where
+    abbrev R : List ℕ
+    R = take n rows
+
+    abbrev C : List ℕ
+    C = take n cols
+
+    -- p nodes are averaged
+    pub averaged-boxes : (g : Shape) (p : ℕ) (now : List ℕ) → take n now ≡ each C (averageOne g R) p → Boxes n rows now
+    averaged-boxes g p now e = boxes-of (z .few) (z .row) now (rw e (averages-below g R 144 C (below-of cols z) p))
+
+    -- one fold, and two
+    module _ (once : List ℕ) (e : once ≡ foldFrom 0 R C ++ drop n cols) (g : Shape) where
+      once-take : take n once ≡ foldFrom 0 R C
+      once-take = ap (take n) e ∙ front-take n cols (foldFrom 0 R C) (fold-same g R 0 C)
+
+      once-drop : drop n once ≡ drop n cols
+      once-drop = ap (drop n) e ∙ front-drop n cols (foldFrom 0 R C) (fold-same g R 0 C)
+
+      pub once-boxes : Boxes n rows once
+      once-boxes = boxes-of (z .few) (z .row) once (rw once-take (fold0-below g R 144 C (below-of cols z)))
+
+      module _ (twice : List ℕ) (f : twice ≡ foldFrom 1 R (take n once) ++ drop n once) where
+        twice-take : take n twice ≡ foldFrom 1 R (foldFrom 0 R C)
+        twice-take = ap (take n) f ∙ front-take n once (foldFrom 1 R (take n once)) (fold-same g R 1 (take n once)) ∙ ap (foldFrom 1 R) once-take
+
+        twice-drop : drop n twice ≡ drop n cols
+        twice-drop = ap (drop n) f ∙ front-drop n once (foldFrom 1 R (take n once)) (fold-same g R 1 (take n once)) ∙ once-drop
+
+        pub twice-boxes : Boxes n rows twice
+        twice-boxes = boxes-of (z .few) (z .row) twice (rw twice-take (fold1-below g R 144 (foldFrom 0 R C) (fold0-below g R 144 C (below-of cols z))))
+
+        pub round-is : (r : List ℕ) → r ≡ average g R (take n twice) ++ drop n twice → r ≡ round g R C ++ drop n cols
+        round-is r h = h ∙ cc (ap (average g R) twice-take, twice-drop)
+
+  -- from the first columns
+  module _ (g : Shape) (many : length g ≡ n) (few : n ≤ 48) (inside : Inside n 48 rows) (first : List ℕ) (f : FirstColumns n (take n first)) where
+    firsts-below : 0 < n → Below (2 * n) (take n first)
+    firsts-below h = everywhere (take n first) n (2 * n) (omega arith) (omega (arith, f .long)) (f .below)
+
+    moves-below : 0 < n → (p : ℕ) → Below (2 * n + p) (each (take n first) (firstMove g (take n rows)) p)
+    moves-below h p =
+        keeps (λ k u. Below (2 * n + k) u) (take n first) (firstMove g (take n rows)) (λ q. omega (arith, firsts-below h q)) p
+        (λ k u l t q. omega (arith, move-below (2 * n + k) u t g (take n rows) k q))
+
+    -- p nodes have moved
+    pub moved-boxes : (p : ℕ) (now : List ℕ) → p ≤ n → take n now ≡ each (take n first) (firstMove g (take n rows)) p → Boxes n rows now
+    moved-boxes p now l e =
+        record {
+          few = few;
+          row = inside .below;
+          column = λ k h. let i = getD-take n now k 0 h in omega (arith, ap (λ (u : List ℕ). at u k) e, moves-below (omega arith) p k);
+        }
+
+    -- where the first moves leave the array, and k rounds after them
+    module _ (begun : List ℕ) (e : begun ≡ firstMoves g (take n rows) (take n first) ++ drop n first) where
+      begun-take : take n begun ≡ firstMoves g (take n rows) (take n first)
+      begun-take = ap (take n) e ∙ front-take n first (firstMoves g (take n rows) (take n first)) (moves-same g (take n rows) (take n first))
+
+      begun-drop : drop n begun ≡ drop n first
+      begun-drop = ap (drop n) e ∙ front-drop n first (firstMoves g (take n rows) (take n first)) (moves-same g (take n rows) (take n first))
+
+      begun-boxes : Boxes n rows begun
+      unfolding firstMoves
+      begun-boxes = moved-boxes (length g) begun (omega arith) begun-take
+
+      pub rounds-boxes : (k : ℕ) (now : List ℕ) → take n now ≡ each (take n begun) (λ i. round g (take n rows)) k → Boxes n rows now
+      rounds-boxes k now i =
+          boxes-of few (inside .below) now
+          (rw i (keeps (λ p u. Below 144 u) (take n begun) (λ i. round g (take n rows)) (below-of begun begun-boxes) k (λ p u h t. round-below g (take n rows) 144 u t)))
+
+      pub rounds-whole : (now : List ℕ) → now ≡ each (take n begun) (λ i. round g (take n rows)) 8 ++ drop n begun → now ≡ columns g (take n rows) (take n first) ++ drop n first
+      unfolding columns
+      rounds-whole now h = h ∙ cc (ap (λ (u : List ℕ). each u (λ i. round g (take n rows)) 8) begun-take, begun-drop)
 
 -- What the stage above reads of the two arrays.
 module _ (n : ℕ) (g : Shape) (long : length g ≡ n) (few : n ≤ 48) where

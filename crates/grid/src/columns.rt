@@ -1,39 +1,27 @@
 // Module 7 of document 01: columns. Box k has column cols[k] and row rows[k], for k below n.
+// A lent array is read as a slice where the proof needs its length, which the prover knows of a slice.
 ghost use mathlib.Core.Path.{_≡_};
-ghost use mathlib.Core.Bool.{cond, _&&_};
+ghost use mathlib.Core.Bool.{cond};
 ghost use mathlib.Core.List.{_++_, map};
-ghost use Prim.Native.Nat.{suc, _<_, _≤_, _+_, _-_, _*_, min, max};
-ghost use lib.Dec.{eqb, ltb};
-ghost use lib.ListN.{take, drop, length};
+ghost use Prim.Native.Nat.{ℕ, suc, _<_, _≤_, _+_, _-_, _*_};
+ghost use lib.Dec.{eqb};
+ghost use lib.ListN.{length, take, drop};
 ghost use Rattle.grid.specs.Lists.{largest, smallest, orElse, total};
-ghost use Rattle.grid.specs.Columns.{at, extra, foldFrom, leftEnd, rightOf, clamp, averageTo, target, firstMove, mean, columnsOf, incidents, firstMoves, average, round, columns};
+ghost use Rattle.grid.specs.Columns.{at, taken, extra, foldFrom, leftEnd, rightOf, clamp, averageTo, target, firstMove, mean, columnsOf, incidents, firstMoves, average, round, columns};
 ghost use Rattle.grid.specs.Placed.{FirstColumns};
-ghost use Rattle.graph.specs.Ends.{endsOf, shapeFrom, Linked};
+ghost use Rattle.grid.specs.Leads.{part, shapeIn, Led};
 ghost use Rattle.grid.specs.Arrays.{Boxes, Inside, inColumn, tableTo};
-use graph::Ends;
-
-fn wide(x: u8) -> usize
-    ensures { λ r. ⌜ r ≡ x ⌝ }
-{
-    x as usize
-}
-
-fn one_if(b: bool) -> usize
-    ensures { λ r. ⌜ r ≡ cond b 1 0 ⌝ }
-{
-    if b { 1 } else { 0 }
-}
 
 // The largest of the first n.
-fn largest_of(xs: [u8; 48], n: usize) -> usize
+fn largest_of(xs: &[u8; 48], n: u32) -> u8
     requires { ⌜ n ≤ 48 ⌝ }
-    ensures { λ r. ⌜ r ≡ largest (take n xs) ⌝ }
+    ensures { λ r. ⌜ r ≡ largest (take n (now (xs .entry))) ⌝ }
 {
-    let mut most = 0usize;
+    let mut most = 0u8;
     let mut k = n;
     while 0 < k {
         k -= 1;
-        let x = wide(xs[k]);
+        let x = xs[k as usize];
         if most < x {
             most = x;
         }
@@ -42,56 +30,63 @@ fn largest_of(xs: [u8; 48], n: usize) -> usize
 }
 
 // Which rows have a box in column x.
-fn in_column(rows: [u8; 48], cols: [u8; 48], n: usize, x: usize) -> [bool; 48]
-    requires { ⌜ Boxes n rows cols ⌝ }
-    ensures { λ r. ⌜ r ≡ inColumn (take n rows) (take n cols) x ⌝ }
+fn in_column(rows: &[u8; 48], cols: &[u8; 48], n: u32, x: u8) -> [bool; 48]
+    requires { ⌜ Boxes n (now rows) (now cols) ⌝ }
+    ensures { λ r. ⌜ r ≡ inColumn (take n (now (rows .entry))) (take n (now (cols .entry))) x ⌝ }
 {
+    let ys: &[u8] = rows;
+    let xs: &[u8] = cols;
     let mut found = [false; 48];
-    let mut k = 0usize;
+    let mut k = 0u32;
     while k < n {
-        let c = wide(cols[k]);
-        let r = wide(rows[k]);
-        k += 1;
-        if c == x {
-            found[r] = true;
+        if xs[k as usize] == x {
+            found[ys[k as usize] as usize] = true;
         }
+        k += 1;
     }
     found
 }
 
+fn one_if(b: bool) -> u8
+    ensures { λ r. ⌜ r ≡ cond b 1 0 ⌝ }
+{
+    if b { 1 } else { 0 }
+}
+
 // The new column of each column, for so many pairs from start on. The search through the rows stops at the first collision.
 fn new_columns(
-    rows: [u8; 48],
-    cols: [u8; 48],
-    n: usize,
-    height: usize,
-    start: usize,
-    pairs: usize,
+    rows: &[u8; 48],
+    cols: &[u8; 48],
+    n: u32,
+    height: u32,
+    start: u8,
+    pairs: u8,
 ) -> [u8; 146]
-    requires { ⌜ Boxes n rows cols ⌝ }
-    requires { ⌜ (height ≡ suc (largest (take n rows))) × (height ≤ 48) × (start ≤ 1) × (pairs ≤ 72) ⌝ }
-    ensures { λ r. ⌜ take (start + 2 * pairs) r ≡ tableTo start pairs (extra (take n rows) (take n cols)) ⌝ }
+    requires { ⌜ Boxes n (now rows) (now cols) ⌝ }
+    requires { ⌜ (height ≡ suc (largest (take n (now rows)))) × (height ≤ 48) × (start ≤ 1) × (pairs ≤ 72) ⌝ }
+    ensures { λ r. ⌜ take (start + 2 * pairs) r ≡ tableTo start pairs (extra (take n (now (rows .entry))) (take n (now (cols .entry)))) ⌝ }
 {
     let mut table = [0u8; 146];
     let mut new = start;
-    let mut p = 0usize;
+    let mut p = 0u8;
     while p < pairs {
         let x = start + 2 * p;
         let left = in_column(rows, cols, n, x);
         let right = in_column(rows, cols, n, x + 1);
-        let mut row = 0usize;
+        let mut row = 0u32;
         let collision = loop {
             if height <= row {
                 break false;
             }
-            if left[row] && right[row] {
+            if left[row as usize] && right[row as usize] {
                 break true;
             }
             row += 1;
         };
         let more = one_if(collision);
-        table[x] = new as u8;
-        table[x + 1] = (new + more) as u8;
+        let i = x as usize;
+        table[i] = new;
+        table[i + 1] = new + more;
         new += more + 1;
         p += 1;
     }
@@ -99,109 +94,78 @@ fn new_columns(
 }
 
 // Each box's column by the table.
-fn rename(cols: [u8; 48], n: usize, table: [u8; 146]) -> [u8; 48]
+fn rename(cols: &mut [u8; 48], n: u32, table: &[u8; 146])
     requires { ⌜ n ≤ 48 ⌝ }
-    requires { ⌜ Inside n 146 cols ⌝ }
-    ensures { λ r. ⌜ r ≡ map (at table) (take n cols) ++ drop n cols ⌝ }
+    requires { ⌜ Inside n 146 (now cols) ⌝ }
+    ensures { λ _. ⌜ now (cols .exit) ≡ map (at (now (table .entry))) (take n (now (cols .entry))) ++ drop n (now (cols .entry)) ⌝ }
 {
-    let mut moved = cols;
-    let mut k = 0usize;
+    let mut k = 0u32;
     while k < n {
-        let c = wide(cols[k]);
-        moved[k] = table[c];
+        cols[k as usize] = table[cols[k as usize] as usize];
         k += 1;
     }
-    moved
 }
 
 // A fold from start: columns in pairs, each pair into one new column, or two where a row has both taken.
-fn fold(rows: [u8; 48], cols: [u8; 48], n: usize, start: usize) -> [u8; 48]
-    requires { ⌜ Boxes n rows cols ⌝ }
+fn fold(rows: &[u8; 48], cols: &mut [u8; 48], n: u32, start: u8)
+    requires { ⌜ Boxes n (now rows) (now cols) ⌝ }
     requires { ⌜ start ≤ 1 ⌝ }
-    ensures { λ r. ⌜ r ≡ foldFrom start (take n rows) (take n cols) ++ drop n cols ⌝ }
+    ensures { λ _. ⌜ now (cols .exit) ≡ foldFrom start (take n (now (rows .entry))) (take n (now (cols .entry))) ++ drop n (now (cols .entry)) ⌝ }
 {
-    let height = largest_of(rows, n) + 1;
+    let height = largest_of(rows, n) as u32 + 1;
     let last = largest_of(cols, n);
     let pairs = (last + 2 - start) / 2;
     let table = new_columns(rows, cols, n, height, start, pairs);
-    let moved = rename(cols, n, table);
-    moved
+    rename(cols, n, &table);
 }
 
-// The larger of low and the place after c, if c is to the left of x and its row y is r.
-fn past(low: usize, y: usize, r: usize, c: usize, x: usize) -> usize
-    requires { ⌜ c < 256 ⌝ }
-    ensures { λ z. ⌜ z ≡ max (cond (eqb y r && ltb c x) (c + 1) 0) low ⌝ }
-{
-    if y != r {
-        return low;
-    }
-    if x <= c {
-        return low;
-    }
-    if c < low {
-        return low;
-    }
-    c + 1
+// The first place after the left neighbour of a box, or 0, and the column of its right neighbour, or 255.
+pub struct Neighbours {
+    pub low: u8,
+    pub next: u8,
 }
 
-// The smaller of next and c, if c is to the right of x and its row y is r.
-fn nearer_of(next: usize, y: usize, r: usize, c: usize, x: usize) -> usize
-    ensures { λ z. ⌜ z ≡ cond (eqb y r && ltb x c) (min c next) next ⌝ }
+// The neighbours of column x in row r.
+fn between(rows: &[u8; 48], cols: &[u8; 48], n: u32, r: u8, x: u8) -> Neighbours
+    requires { ⌜ Boxes n (now rows) (now cols) ⌝ }
+    ensures low { λ z. ⌜ z .low ≡ leftEnd (take n (now (rows .entry))) (take n (now (cols .entry))) r x ⌝ }
+    ensures next { λ z. ⌜ z .next ≡ orElse 255 (rightOf (take n (now (rows .entry))) (take n (now (cols .entry))) r x) ⌝ }
 {
-    if y != r {
-        return next;
-    }
-    if c <= x {
-        return next;
-    }
-    if next < c {
-        return next;
-    }
-    c
-}
-
-// The first place after the left neighbour of column x in row r, or 0.
-fn left_end(rows: [u8; 48], cols: [u8; 48], n: usize, r: usize, x: usize) -> usize
-    requires { ⌜ Boxes n rows cols ⌝ }
-    ensures { λ z. ⌜ z ≡ leftEnd (take n rows) (take n cols) r x ⌝ }
-{
-    let mut low = 0usize;
+    let ys: &[u8] = rows;
+    let xs: &[u8] = cols;
+    let mut low = 0u8;
+    let mut next = 255u8;
     let mut k = n;
     while 0 < k {
         k -= 1;
-        let y = wide(rows[k]);
-        let c = wide(cols[k]);
-        low = past(low, y, r, c, x);
+        if ys[k as usize] == r {
+            let c = xs[k as usize];
+            if c < x {
+                if low <= c {
+                    low = c + 1;
+                }
+            } else if x < c {
+                if c < next {
+                    next = c;
+                }
+            }
+        }
     }
-    low
-}
-
-// The column of the right neighbour of column x in row r, or 255.
-fn right_of(rows: [u8; 48], cols: [u8; 48], n: usize, r: usize, x: usize) -> usize
-    requires { ⌜ Boxes n rows cols ⌝ }
-    ensures { λ z. ⌜ z ≡ orElse 255 (rightOf (take n rows) (take n cols) r x) ⌝ }
-{
-    let mut next = 255usize;
-    let mut k = n;
-    while 0 < k {
-        k -= 1;
-        let y = wide(rows[k]);
-        let c = wide(cols[k]);
-        next = nearer_of(next, y, r, c, x);
+    Neighbours {
+        low: low,
+        next: next,
     }
-    next
 }
 
 // The last place before the right neighbour, or x where there is none.
-fn right_end(next: usize, x: usize) -> usize
+fn right_end(next: u8, x: u8) -> u8
     requires { ⌜ x < next ⌝ }
     ensures { λ z. ⌜ z ≡ cond (eqb next 255) x (next - 1) ⌝ }
 {
     if next == 255 { x } else { next - 1 }
 }
 
-fn clamped(low: usize, high: usize, x: usize) -> usize
+fn clamped(low: u8, high: u8, x: u8) -> u8
     requires { ⌜ low ≤ high ⌝ }
     ensures { λ z. ⌜ z ≡ clamp low high x ⌝ }
 {
@@ -215,162 +179,106 @@ fn clamped(low: usize, high: usize, x: usize) -> usize
 }
 
 // Box p, which would go to column wanted, goes there, clamped between its neighbours.
-fn average_to(rows: [u8; 48], cols: [u8; 48], n: usize, p: usize, wanted: usize) -> [u8; 48]
-    requires { ⌜ Boxes n rows cols ⌝ }
+fn average_to(rows: &[u8; 48], cols: &mut [u8; 48], n: u32, p: u32, wanted: u8)
+    requires { ⌜ Boxes n (now rows) (now cols) ⌝ }
     requires { ⌜ p < n ⌝ }
-    ensures { λ z. ⌜ z ≡ averageTo (take n rows) p wanted (take n cols) ++ drop n cols ⌝ }
+    ensures { λ _. ⌜ now (cols .exit) ≡ averageTo (take n (now (rows .entry))) p wanted (take n (now (cols .entry))) ++ drop n (now (cols .entry)) ⌝ }
 {
-    let r = wide(rows[p]);
-    let x = wide(cols[p]);
-    let low = left_end(rows, cols, n, r, x);
-    let next = right_of(rows, cols, n, r, x);
-    let high = right_end(next, x);
-    let to = clamped(low, high, wanted);
-    let mut moved = cols;
-    moved[p] = to as u8;
-    moved
+    let i = p as usize;
+    let x = cols[i];
+    let free = between(rows, cols, n, rows[i], x);
+    let high = right_end(free.next, x);
+    cols[i] = clamped(free.low, high, wanted);
 }
 
-// How many ends node p has here.
-fn count_of(e: Ends, p: usize) -> usize
-    requires { ⌜ e .count ≤ 88 ⌝ }
-    ensures { λ z. ⌜ (z ≡ length (endsOf e p)) × (z ≤ 88) ⌝ }
+// The sum of the columns of those from a up to b, which are b - a.
+fn sum_of(to: &[u8; 176], a: u32, b: u32, cols: &[u8; 48], n: u32) -> u32
+    requires { ⌜ (a ≤ b) × (b ≤ 176) × (n ≤ 48) ⌝ }
+    requires { ⌜ ((k : ℕ) → k < b → at (now to) k < n) × Inside n 144 (now cols) ⌝ }
+    ensures { λ z. ⌜ (z ≡ total (map (at (now (cols .entry))) (part (now (to .entry)) a b))) × (z ≤ 144 * (b - a)) ⌝ }
+    ensures { λ _. ⌜ length (part (now (to .entry)) a b) ≡ b - a ⌝ }
 {
-    let mut m = 0usize;
-    let mut k = e.count;
-    while 0 < k {
+    let all: &[u8] = to;
+    let mut s = 0u32;
+    let mut k = b;
+    while a < k {
         k -= 1;
-        let o = wide(e.owner[k]);
-        if o == p {
-            m += 1;
-        }
-    }
-    m
-}
-
-// The sum of the columns of the ends that node p has here.
-fn sum_of(e: Ends, p: usize, cols: [u8; 48], n: usize) -> usize
-    requires { ⌜ Linked n e ⌝ }
-    requires { ⌜ Inside n 144 cols ⌝ }
-    ensures { λ z. ⌜ (z ≡ total (map (at cols) (endsOf e p))) × (z ≤ 144 * 88) ⌝ }
-{
-    let mut s = 0usize;
-    let mut k = e.count;
-    while 0 < k {
-        k -= 1;
-        let o = wide(e.owner[k]);
-        let t = wide(e.to[k]);
-        let c = wide(cols[t]);
-        if o == p {
-            s += c;
-        }
+        s += cols[all[k as usize] as usize] as u32;
     }
     s
 }
 
 // The mean column of the incidents of node p.
-fn wanted(sources: Ends, sinks: Ends, p: usize, cols: [u8; 48], n: usize) -> usize
-    requires { ⌜ (Linked n sources) × (Linked n sinks) ⌝ }
-    requires { ⌜ Inside n 144 cols ⌝ }
-    requires { ⌜ (p < n) × (n ≤ 48) ⌝ }
-    ensures { λ z. ⌜ z ≡ mean (columnsOf (take n cols) (incidents (shapeFrom n sources sinks) p)) ⌝ }
+fn wanted(to: &[u8; 176], bounds: &[u8; 97], p: u32, cols: &[u8; 48], n: u32) -> u8
+    requires { ⌜ Led n (now to) (now bounds) ⌝ }
+    requires { ⌜ Inside n 144 (now cols) ⌝ }
+    requires { ⌜ p < n ⌝ }
+    ensures { λ z. ⌜ z ≡ mean (columnsOf (take n (now (cols .entry))) (incidents (shapeIn n (now (to .entry)) (now (bounds .entry))) p)) ⌝ }
 {
-    let m = count_of(sources, p) + count_of(sinks, p);
-    if m == 0 {
+    let i = 2 * p as usize;
+    let a = bounds[i] as u32;
+    let b = bounds[i + 2] as u32;
+    if a == b {
         return 0;
     }
-    let s = sum_of(sources, p, cols, n) + sum_of(sinks, p, cols, n);
-    s / m
+    (sum_of(to, a, b, cols, n) / (b - a)) as u8
 }
 
 // Averaging, nodes rising.
-fn average_all(sources: Ends, sinks: Ends, rows: [u8; 48], cols: [u8; 48], n: usize) -> [u8; 48]
-    requires { ⌜ (Linked n sources) × (Linked n sinks) ⌝ }
-    requires { ⌜ Boxes n rows cols ⌝ }
-    ensures { λ z. ⌜ z ≡ average (shapeFrom n sources sinks) (take n rows) (take n cols) ++ drop n cols ⌝ }
+fn average_all(to: &[u8; 176], bounds: &[u8; 97], rows: &[u8; 48], cols: &mut [u8; 48], n: u32)
+    requires { ⌜ Led n (now to) (now bounds) ⌝ }
+    requires { ⌜ Boxes n (now rows) (now cols) ⌝ }
+    ensures { λ _. ⌜ now (cols .exit) ≡ average (shapeIn n (now (to .entry)) (now (bounds .entry))) (take n (now (rows .entry))) (take n (now (cols .entry))) ++ drop n (now (cols .entry)) ⌝ }
 {
-    let mut moved = cols;
-    let mut p = 0usize;
+    let mut p = 0u32;
     while p < n {
-        let w = wanted(sources, sinks, p, moved, n);
-        let next = average_to(rows, moved, n, p, w);
-        moved = next;
+        let w = wanted(to, bounds, p, cols, n);
+        average_to(rows, cols, n, p, w);
         p += 1;
     }
-    moved
 }
 
-// The smaller of v and c, if o is p.
-fn lower_if(v: usize, o: usize, p: usize, c: usize) -> usize
-    ensures { λ z. ⌜ z ≡ cond (eqb o p) (min c v) v ⌝ }
+// The smallest of the columns of those from a up to b, and of most.
+fn smallest_end(to: &[u8; 176], a: u32, b: u32, cols: &[u8; 48], n: u32, most: u8) -> u8
+    requires { ⌜ (a ≤ b) × (b ≤ 176) × (n ≤ 48) ⌝ }
+    requires { ⌜ ((k : ℕ) → k < b → at (now to) k < n) ⌝ }
+    ensures { λ z. ⌜ z ≡ smallest most (map (at (now (cols .entry))) (part (now (to .entry)) a b)) ⌝ }
 {
-    if o != p {
-        return v;
-    }
-    if v < c {
-        return v;
-    }
-    c
-}
-
-// The larger of v and c, if o is p.
-fn higher_if(v: usize, o: usize, p: usize, c: usize) -> usize
-    ensures { λ z. ⌜ z ≡ cond (eqb o p) (max c v) v ⌝ }
-{
-    if o != p {
-        return v;
-    }
-    if c < v {
-        return v;
-    }
-    c
-}
-
-// The smallest column of the ends that node p has here, and of most.
-fn smallest_end(e: Ends, p: usize, cols: [u8; 48], n: usize, most: usize) -> usize
-    requires { ⌜ Linked n e ⌝ }
-    ensures { λ z. ⌜ z ≡ smallest most (map (at cols) (endsOf e p)) ⌝ }
-{
+    let all: &[u8] = to;
     let mut v = most;
-    let mut k = e.count;
-    while 0 < k {
+    let mut k = b;
+    while a < k {
         k -= 1;
-        let o = wide(e.owner[k]);
-        let t = wide(e.to[k]);
-        let c = wide(cols[t]);
-        v = lower_if(v, o, p, c);
+        let c = cols[all[k as usize] as usize];
+        if c < v {
+            v = c;
+        }
     }
     v
 }
 
-// The largest column of the ends that node p has here.
-fn largest_end(e: Ends, p: usize, cols: [u8; 48], n: usize) -> usize
-    requires { ⌜ Linked n e ⌝ }
-    ensures { λ z. ⌜ z ≡ largest (map (at cols) (endsOf e p)) ⌝ }
+// The largest of the columns of those from a up to b, which are b - a.
+fn largest_end(to: &[u8; 176], a: u32, b: u32, cols: &[u8; 48], n: u32) -> u8
+    requires { ⌜ (a ≤ b) × (b ≤ 176) × (n ≤ 48) ⌝ }
+    requires { ⌜ ((k : ℕ) → k < b → at (now to) k < n) ⌝ }
+    ensures { λ z. ⌜ z ≡ largest (map (at (now (cols .entry))) (part (now (to .entry)) a b)) ⌝ }
+    ensures { λ _. ⌜ length (part (now (to .entry)) a b) ≡ b - a ⌝ }
 {
-    let mut v = 0usize;
-    let mut k = e.count;
-    while 0 < k {
+    let all: &[u8] = to;
+    let mut v = 0u8;
+    let mut k = b;
+    while a < k {
         k -= 1;
-        let o = wide(e.owner[k]);
-        let t = wide(e.to[k]);
-        let c = wide(cols[t]);
-        v = higher_if(v, o, p, c);
+        let c = cols[all[k as usize] as usize];
+        if v < c {
+            v = c;
+        }
     }
     v
-}
-
-fn larger(x: usize, y: usize) -> usize
-    ensures { λ z. ⌜ z ≡ max x y ⌝ }
-{
-    if x < y {
-        return y;
-    }
-    x
 }
 
 // Where a box at pos goes whose incidents have columns from low to high.
-fn target_of(pos: usize, low: usize, high: usize) -> usize
+fn target_of(pos: u8, low: u8, high: u8) -> u8
     requires { ⌜ (pos < 144) × (low < 144) × (high < 144) ⌝ }
     ensures { λ z. ⌜ z ≡ target pos low high ⌝ }
 {
@@ -389,82 +297,92 @@ fn target_of(pos: usize, low: usize, high: usize) -> usize
     high - 1
 }
 
+// Whether some box has row r and column x.
+fn is_taken(rows: &[u8; 48], cols: &[u8; 48], n: u32, r: u8, x: u8) -> bool
+    requires { ⌜ n ≤ 48 ⌝ }
+    ensures { λ z. ⌜ z ≡ taken (take n (now (rows .entry))) (take n (now (cols .entry))) r x ⌝ }
+{
+    let ys: &[u8] = rows;
+    let xs: &[u8] = cols;
+    let mut k = 0u32;
+    while k < n {
+        if ys[k as usize] == r && xs[k as usize] == x {
+            return true;
+        }
+        k += 1;
+    }
+    false
+}
+
 // The first move of node p, if it has two incidents or more and the place is free.
 fn first_move(
-    sources: Ends,
-    sinks: Ends,
-    rows: [u8; 48],
-    cols: [u8; 48],
-    n: usize,
-    p: usize,
-) -> [u8; 48]
-    requires { ⌜ (Linked n sources) × (Linked n sinks) ⌝ }
-    requires { ⌜ Boxes n rows cols ⌝ }
+    to: &[u8; 176],
+    bounds: &[u8; 97],
+    rows: &[u8; 48],
+    cols: &mut [u8; 48],
+    n: u32,
+    p: u32,
+)
+    requires { ⌜ Led n (now to) (now bounds) ⌝ }
+    requires { ⌜ Boxes n (now rows) (now cols) ⌝ }
     requires { ⌜ p < n ⌝ }
-    ensures { λ z. ⌜ z ≡ firstMove (shapeFrom n sources sinks) (take n rows) p (take n cols) ++ drop n cols ⌝ }
+    ensures { λ _. ⌜ now (cols .exit) ≡ firstMove (shapeIn n (now (to .entry)) (now (bounds .entry))) (take n (now (rows .entry))) p (take n (now (cols .entry))) ++ drop n (now (cols .entry)) ⌝ }
 {
-    let m = count_of(sources, p) + count_of(sinks, p);
-    if m < 2 {
-        return cols;
+    let i = p as usize;
+    let a = bounds[2 * i] as u32;
+    let b = bounds[2 * i + 2] as u32;
+    if b < a + 2 {
+        return;
     }
-    let high = larger(
-        largest_end(sources, p, cols, n),
-        largest_end(sinks, p, cols, n),
-    );
-    let mid = smallest_end(sinks, p, cols, n, high);
-    let low = smallest_end(sources, p, cols, n, mid);
-    let pos = wide(cols[p]);
-    let to = target_of(pos, low, high);
-    let r = wide(rows[p]);
-    let there = in_column(rows, cols, n, to);
-    if there[r] {
-        return cols;
+    let high = largest_end(to, a, b, cols, n);
+    let low = smallest_end(to, a, b, cols, n, high);
+    let goal = target_of(cols[i], low, high);
+    if is_taken(rows, cols, n, rows[i], goal) {
+        return;
     }
-    let mut moved = cols;
-    moved[p] = to as u8;
-    moved
+    cols[i] = goal;
 }
 
 // The first moves, nodes rising.
-fn first_moves(sources: Ends, sinks: Ends, rows: [u8; 48], first: [u8; 48], n: usize) -> [u8; 48]
-    requires { ⌜ (Linked n sources) × (Linked n sinks) ⌝ }
-    requires { ⌜ (Inside n 48 rows) × (FirstColumns n (take n first)) ⌝ }
-    ensures { λ z. ⌜ z ≡ firstMoves (shapeFrom n sources sinks) (take n rows) (take n first) ++ drop n first ⌝ }
+fn first_moves(to: &[u8; 176], bounds: &[u8; 97], rows: &[u8; 48], cols: &mut [u8; 48], n: u32)
+    requires { ⌜ Led n (now to) (now bounds) ⌝ }
+    requires { ⌜ (Inside n 48 (now rows)) × (FirstColumns n (take n (now cols))) ⌝ }
+    ensures { λ _. ⌜ now (cols .exit) ≡ firstMoves (shapeIn n (now (to .entry)) (now (bounds .entry))) (take n (now (rows .entry))) (take n (now (cols .entry))) ++ drop n (now (cols .entry)) ⌝ }
 {
-    let mut moved = first;
-    let mut p = 0usize;
+    let mut p = 0u32;
     while p < n {
-        let next = first_move(sources, sinks, rows, moved, n, p);
-        moved = next;
+        first_move(to, bounds, rows, cols, n, p);
         p += 1;
     }
-    moved
 }
 
 // One of the 8 rounds: fold from 0, fold from 1, average.
-fn round(sources: Ends, sinks: Ends, rows: [u8; 48], cols: [u8; 48], n: usize) -> [u8; 48]
-    requires { ⌜ (Linked n sources) × (Linked n sinks) ⌝ }
-    requires { ⌜ Boxes n rows cols ⌝ }
-    ensures { λ z. ⌜ z ≡ round (shapeFrom n sources sinks) (take n rows) (take n cols) ++ drop n cols ⌝ }
+fn round(to: &[u8; 176], bounds: &[u8; 97], rows: &[u8; 48], cols: &mut [u8; 48], n: u32)
+    requires { ⌜ Led n (now to) (now bounds) ⌝ }
+    requires { ⌜ Boxes n (now rows) (now cols) ⌝ }
+    ensures { λ _. ⌜ now (cols .exit) ≡ round (shapeIn n (now (to .entry)) (now (bounds .entry))) (take n (now (rows .entry))) (take n (now (cols .entry))) ++ drop n (now (cols .entry)) ⌝ }
 {
-    let once = fold(rows, cols, n, 0);
-    let twice = fold(rows, once, n, 1);
-    let moved = average_all(sources, sinks, rows, twice, n);
-    moved
+    fold(rows, cols, n, 0);
+    fold(rows, cols, n, 1);
+    average_all(to, bounds, rows, cols, n);
 }
 
-// Module 7: the columns of n boxes, from their rows and first columns.
-pub fn columns(sources: Ends, sinks: Ends, rows: [u8; 48], first: [u8; 48], n: usize) -> [u8; 48]
-    requires { ⌜ (Linked n sources) × (Linked n sinks) ⌝ }
-    requires { ⌜ (Inside n 48 rows) × (FirstColumns n (take n first)) ⌝ }
-    ensures { λ z. ⌜ z ≡ columns (shapeFrom n sources sinks) (take n rows) (take n first) ++ drop n first ⌝ }
+// Module 7: the columns of n boxes, from their rows and, in cols, their first columns.
+pub fn columns<'a>(
+    to: &'a [u8; 176],
+    bounds: &'a [u8; 97],
+    rows: &[u8; 48],
+    cols: &mut [u8; 48],
+    n: u32,
+)
+    requires { ⌜ Led n (now to) (now bounds) ⌝ }
+    requires { ⌜ (Inside n 48 (now rows)) × (FirstColumns n (take n (now cols))) ⌝ }
+    ensures { λ _. ⌜ now (cols .exit) ≡ columns (shapeIn n (now (to .entry)) (now (bounds .entry))) (take n (now (rows .entry))) (take n (now (cols .entry))) ++ drop n (now (cols .entry)) ⌝ }
 {
-    let mut cols = first_moves(sources, sinks, rows, first, n);
-    let mut k = 0usize;
+    first_moves(to, bounds, rows, cols, n);
+    let mut k = 0u32;
     while k < 8 {
-        let next = round(sources, sinks, rows, cols, n);
-        cols = next;
+        round(to, bounds, rows, cols, n);
         k += 1;
     }
-    cols
 }

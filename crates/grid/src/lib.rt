@@ -118,7 +118,8 @@ fn lay_out(g: Tables, first: [u8; 48], x: u32, y: u32) -> SheetRecord
     let to = graph::ends_of(sinks);
     let l = leads::leads_of(from, to, n);
     let rows = heights::heights(&l.to, &l.bounds, n);
-    let cols = columns::columns(from, to, rows, first, n);
+    let mut cols = first;
+    columns::columns(&l.to, &l.bounds, &rows, &mut cols, n as u32);
     render_grid::laid(g, &rows, &cols, x, y)
 }
 

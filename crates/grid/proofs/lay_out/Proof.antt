@@ -3,12 +3,13 @@
 use Prim.Native.Nat.{_-_}
 use mathlib.Core.Path.{_≡_, ap, _∙_}
 use mathlib.Core.List.{_++_}
-use lib.ListN.{length, replicate}
+use lib.ListN.{length, take, drop, replicate}
 use Rattle.laws.proofs.Lists.{mapped-long}
 use Rattle.graph.specs.declared.Tables.{Tables}
 use Rattle.graph.specs.Shape.{Shape}
 use Rattle.graph.specs.Ends.{shapeFrom, Linked}
 use Rattle.grid.specs.Heights.{heights}
+use Rattle.grid.specs.Columns.{columns}
 use Rattle.grid.specs.RenderGrid.{Sheet}
 use Rattle.grid.specs.Curves.{recordOf}
 use Rattle.grid.proofs.Sheets.{from-linked, to-linked, rows-inside, rows-bounded, cols-bounded, laid-is}
@@ -22,13 +23,6 @@ sources-long c = search (needs, mapped-long)
 sinks-long : (c : tie.Start) → length (c .args .g .sinks .items) ≡ 88
 sinks-long c = search (needs, mapped-long)
 
--- the ends lead from node to node
-linked : (c : tie.After-ends-of2) → let n = c .before .before .before .before .args .g .n in Linked n (c .before .ends-of .result) × Linked n (c .ends-of2 .result)
-linked c =
-    let s = c .before .before .before .before in
-    let t = s .args .g in
-    (from-linked t (sources-long s) (sinks-long s) (s .pre .0) _ _ (c .before .ends-of .ensures) (c .ends-of2 .ensures), to-linked t (sources-long s) (sinks-long s) (s .pre .0) _ _ (c .before .ends-of .ensures) (c .ends-of2 .ensures))
-
 -- the rows are those of the ends' shape, which the table of leads holds
 module _ (c : tie.After-heights) where
   abbrev known : tie.After-ends-of2
@@ -40,8 +34,22 @@ module _ (c : tie.After-heights) where
   abbrev t : Tables
   t = s .args .g
 
-  rows : c .heights .result ≡ heights (shapeFrom (t .n) (known .before .ends-of .result) (known .ends-of2 .result)) ++ replicate (48 - t .n) 0
+  abbrev shape : Shape
+  shape = shapeFrom (t .n) (known .before .ends-of .result) (known .ends-of2 .result)
+
+  rows : c .heights .result ≡ heights shape ++ replicate (48 - t .n) 0
   rows = c .heights .ensures ∙ ap (λ (g : Shape). heights g ++ replicate (48 - t .n) 0) (c .before .before .before .before .leads-of .ensures .0)
+
+-- and so are the columns
+module _ (c : tie.After-columns) where
+  abbrev high : tie.After-heights
+  high = c .before .before .before .before .before .before
+
+  cols : c .columns .last .1 .1 .1 .0 ≡ columns (shape high) (take (t high .n) (high .heights .result)) (take (t high .n) (s high .args .first)) ++ drop (t high .n) (s high .args .first)
+  cols =
+      c .columns .ensures
+      ∙ ap (λ (g : Shape). columns g (take (t high .n) (high .heights .result)) (take (t high .n) (s high .args .first)) ++ drop (t high .n) (s high .args .first))
+      (high .before .before .before .before .leads-of .ensures .0)
 
 ends-of-requires : tie.Need-ends-of-requires
 ends-of-requires c κs = search needs
@@ -50,37 +58,49 @@ ends-of-requires-2 : tie.Need-ends-of-requires-2
 ends-of-requires-2 c κs = search needs
 
 leads-of-requires : tie.Need-leads-of-requires
-leads-of-requires c κs = linked c
+leads-of-requires c κs =
+    let z = c .before .before .before .before in
+    let d = c .before .ends-of .ensures in
+    let e = c .ends-of2 .ensures in
+    (from-linked (z .args .g) (sources-long z) (sinks-long z) (z .pre .0) _ _ d e, to-linked (z .args .g) (sources-long z) (sinks-long z) (z .pre .0) _ _ d e)
 
 heights-requires : tie.Need-heights-requires
 heights-requires c κs = search needs
 
+cast-columns : tie.Need-cast-columns
+cast-columns c = search needs
+
 columns-requires : tie.Need-columns-requires
 columns-requires c κs =
-    let k = known c in
-    (linked k, (rows-inside (t c) (sources-long (s c)) (sinks-long (s c)) (s c .pre .0) _ _ (k .before .ends-of .ensures) (k .ends-of2 .ensures) (c .heights .result) (rows c), s c .pre .1))
+    let h = c .before .before .before .before .before in
+    let z = s h in (
+      h .before .before .before .before .leads-of .ensures .1,
+      (rows-inside (t h) (sources-long z) (sinks-long z) (z .pre .0) _ _ (known h .before .ends-of .ensures) (known h .ends-of2 .ensures) (h .heights .result) (rows h), z .pre .1),
+    )
 
 laid-requires : tie.Need-laid-requires
 laid-requires c κs =
-    let h = c .before .before .before in
-    let k = c .before .before .columns in
+    let b = c .before .before in
+    let h = high b in
+    let z = s h in
     let d = known h .before .ends-of .ensures in
     let e = known h .ends-of2 .ensures in (
-      s h .pre .0,
+      z .pre .0,
       (
-        rows-bounded (t h) (sources-long (s h)) (sinks-long (s h)) (s h .pre .0) _ _ d e (h .heights .result) (rows h),
-        cols-bounded (t h) (sources-long (s h)) (sinks-long (s h)) (s h .pre .0) _ _ d e (h .heights .result) (rows h) (s h .args .first) (s h .pre .1) (k .result) (k .ensures),
+        rows-bounded (t h) (sources-long z) (sinks-long z) (z .pre .0) _ _ d e (h .heights .result) (rows h),
+        cols-bounded (t h) (sources-long z) (sinks-long z) (z .pre .0) _ _ d e (h .heights .result) (rows h) (z .args .first) (z .pre .1) (b .columns .last .1 .1 .1 .0) (cols b),
       ),
     )
 
 returns : tie.Need-returns
 returns c =
-    let h = c .before .before .before .before in
+    let b = c .before .before .before in
+    let h = high b in
+    let z = s h in
     let d = known h .before .ends-of .ensures in
     let e = known h .ends-of2 .ensures in
-    let k = c .before .before .before .columns in
     c .laid .ensures
-    ∙ ap (λ (sh : Sheet). recordOf sh (s h .args .x) (s h .args .y)) (laid-is (t h) (sources-long (s h)) (sinks-long (s h)) (s h .pre .0) _ _ d e (h .heights .result) (rows h) (s h .args .first) (s h .pre .1) (k .result) (k .ensures))
+    ∙ ap (λ (sh : Sheet). recordOf sh (z .args .x) (z .args .y)) (laid-is (t h) (sources-long z) (sinks-long z) (z .pre .0) _ _ d e (h .heights .result) (rows h) (z .args .first) (z .pre .1) (b .columns .last .1 .1 .1 .0) (cols b))
 
 pub lay-out-spec : {M : Type 1} → statement M
 lay-out-spec =
@@ -90,6 +110,7 @@ lay-out-spec =
     ends-of-requires-2
     leads-of-requires
     heights-requires
+    cast-columns
     columns-requires
     laid-requires
     returns)

@@ -1,49 +1,39 @@
 -- `columns::columns`: one round more at each turn.
 -- Assumes nothing.
-use Prim.Native.Nat.{_≤_, _-_, _+_}
+use Prim.Native.Nat.{_≤_, _-_}
 use native.Mathlib.Omega.{arith}
-use mathlib.Core.Path.{_≡_, refl, ap, _∙_}
-use lib.ListN.{length, take, drop}
+use mathlib.Core.Path.{_≡_, refl}
+use lib.ListN.{take, drop}
 use Rattle.laws.specs.Each.{each}
-use Rattle.graph.specs.Ends.{shapeFrom}
-use Rattle.grid.specs.Columns.{firstMoves, round}
-use Rattle.grid.proofs.EndsLaws.{shape-long}
-use Rattle.grid.proofs.RoundLaws.{front-take, front-drop, front-long, rounds-long, rounds-boxes, rounds-next, rounds-all, begun-take, begun-drop}
+use Rattle.grid.specs.Columns.{round}
+use Rattle.grid.specs.Leads.{shapeIn}
+use Rattle.grid.proofs.LeadLaws.{leads-long}
+use Rattle.grid.proofs.RoundLaws.{step-take, step-drop, steps-whole, round-same, rounds-boxes, rounds-whole}
 use borrow.Author.Needs.{needs}
 use Rattle.grid.proofs.columns.columns.Statement.{statement}
 use Rattle.grid.proofs.columns.columns.Tie as tie
 
 abbrev Inv-loop : tie.InvT-loop
-Inv-loop sources sinks rows n cols₀ k₀ cols k =
-    (k ≤ 8) × (take n cols ≡ each (take n cols₀) (λ i. round (shapeFrom n sources sinks) (take n rows)) k) × (drop n cols ≡ drop n cols₀) × (length cols ≡ 48)
+Inv-loop to bounds rows cols₀ n k₀ cols k = (k ≤ 8) × (take n cols ≡ each (take n cols₀) (λ i. round (shapeIn n to bounds) (take n rows)) k) × (drop n cols ≡ drop n cols₀)
 
 abbrev μ-loop : tie.MeasureT-loop
-μ-loop sources sinks rows n cols₀ k₀ cols k = 8 - k
-
-rows-long : (z : tie.Start Inv-loop μ-loop) → z .args .n ≤ length (z .args .rows)
-rows-long z = let e : length (z .args .rows) ≡ 48 = search needs in omega (arith, z .pre .0 .0 .nodes)
-
-first-long : (z : tie.Start Inv-loop μ-loop) → z .args .n ≤ length (z .args .first)
-first-long z = let e : length (z .args .first) ≡ 48 = search needs in omega (arith, z .pre .0 .0 .nodes)
-
-moved-long : (c : tie.After-first-moves Inv-loop μ-loop) → length (c .first-moves .result) ≡ 48
-moved-long c = search needs
-
-moved-take : (c : tie.After-first-moves Inv-loop μ-loop) → let z = c .before in take (z .args .n) (c .first-moves .result) ≡ firstMoves (shapeFrom (z .args .n) (z .args .sources) (z .args .sinks)) (take (z .args .n) (z .args .rows)) (take (z .args .n) (z .args .first))
-moved-take c = let z = c .before in begun-take (z .args .n) (shapeFrom (z .args .n) (z .args .sources) (z .args .sinks)) (shape-long (z .args .n) (z .args .sources) (z .args .sinks)) (z .args .rows) (z .args .first) (z .pre .0 .0 .nodes) (rows-long z) (z .pre .1 .0) (z .pre .1 .1) (c .first-moves .result) (first-long z) (c .first-moves .ensures)
+μ-loop to bounds rows cols₀ n k₀ cols k = 8 - k
 
 first-moves-requires : tie.Need-first-moves-requires Inv-loop μ-loop
 first-moves-requires c κs = search needs
 
 loop-holds : tie.Need-loop-holds Inv-loop μ-loop
 unfolding each
-loop-holds c = (search needs, refl, refl, moved-long c)
+loop-holds c = (search needs, refl, refl)
 
 round-requires : tie.Need-round-requires Inv-loop μ-loop
 round-requires c κs =
-    let z = c .before .before .before in
-    let l = c .before .loop in
-    (z .pre .0, rounds-boxes (z .args .n) (shapeFrom (z .args .n) (z .args .sources) (z .args .sinks)) (shape-long (z .args .n) (z .args .sources) (z .args .sinks)) (z .args .rows) (z .args .first) (z .pre .0 .0 .nodes) (rows-long z) (z .pre .1 .0) (z .pre .1 .1) (l .k) (l .cols) (rw (moved-take (c .before .before)) at (l .inv .1)))
+    let b = c .before .before .before in
+    let z = b .before .before in
+    let a = z .args in
+    let m = b .first-moves in
+    let l = c .before .before .loop in
+    (z .pre .0, rounds-boxes (a .n) (a .rows .now) (shapeIn (a .n) (a .to .now) (a .bounds .now)) (leads-long (a .n) (a .to .now) (a .bounds .now)) (z .pre .0 .nodes) (z .pre .1 .0) (a .cols .now) (z .pre .1 .1) (m .last .1 .1 .1 .0) (m .ensures) (l .k) (l .cols) (l .inv .1))
 
 add-k : tie.Need-add-k Inv-loop μ-loop
 add-k c = search needs
@@ -53,27 +43,29 @@ loop-less c = search needs
 
 loop-again : tie.Need-loop-again Inv-loop μ-loop
 loop-again c =
-    let z = c .before .before .before .before in
-    let l = c .before .before .loop in
-    let s = moved-take (c .before .before .before) in
-    let next = rounds-next (z .args .n) (shapeFrom (z .args .n) (z .args .sources) (z .args .sinks)) (shape-long (z .args .n) (z .args .sources) (z .args .sinks)) (z .args .rows) (z .args .first) (z .pre .0 .0 .nodes) (rows-long z) (z .pre .1 .0) (z .pre .1 .1) (l .k) (l .cols) (rw s at (l .inv .1)) in
-    let few : z .args .n ≤ length (l .cols) = omega (arith, l .inv .3, z .pre .0 .0 .nodes) in
-    let new = round (shapeFrom (z .args .n) (z .args .sources) (z .args .sinks)) (take (z .args .n) (z .args .rows)) (take (z .args .n) (l .cols)) in
-    let m = ap (λ u. length u) next ∙ rounds-long (z .args .n) (shapeFrom (z .args .n) (z .args .sources) (z .args .sinks)) (shape-long (z .args .n) (z .args .sources) (z .args .sinks)) (z .args .rows) (z .args .first) (z .pre .0 .0 .nodes) (rows-long z) (z .pre .1 .0) (z .pre .1 .1) (l .k + 1) in (
+    let b = c .before .before .before .before in
+    let a = b .before .before .args in
+    let l = c .before .before .before .loop in
+    let g = shapeIn (a .n) (a .to .now) (a .bounds .now) in
+    let R = take (a .n) (a .rows .now) in
+    let first = b .first-moves .last .1 .1 .1 .0 in
+    let now = c .round .last .1 .1 .1 .0 in (
       omega arith,
-      rw s (front-take (z .args .n) (l .cols) new (c .round .result) few m (c .round .ensures) ∙ next),
-      front-drop (z .args .n) (l .cols) new (c .round .result) few m (c .round .ensures) ∙ l .inv .2,
-      front-long (z .args .n) (l .cols) new (c .round .result) few m (c .round .ensures) ∙ l .inv .3,
+      step-take (a .n) (λ i. round g R) (round-same g R) first (l .k) (l .cols) now (l .inv .1) (l .inv .2) (c .round .ensures),
+      step-drop (a .n) (λ i. round g R) (round-same g R) first (l .k) (l .cols) now (l .inv .1) (l .inv .2) (c .round .ensures),
     )
 
 returns : tie.Need-returns Inv-loop μ-loop
 returns c =
-    let z = c .before .before .before in
+    let b = c .before .before in
+    let z = b .before .before in
+    let a = z .args in
+    let m = b .first-moves in
     let l = c .before .loop in
-    let f = c .before .before in
+    let g = shapeIn (a .n) (a .to .now) (a .bounds .now) in
+    let R = take (a .n) (a .rows .now) in
     let e : l .k ≡ 8 = omega (arith, l .inv .0) in
-    let i = rw e at (l .inv .1) in
-    rounds-all (z .args .n) (shapeFrom (z .args .n) (z .args .sources) (z .args .sinks)) (shape-long (z .args .n) (z .args .sources) (z .args .sinks)) (z .args .rows) (z .args .first) (z .pre .0 .0 .nodes) (rows-long z) (z .pre .1 .0) (z .pre .1 .1) (l .cols) (rw (moved-take f) at i) (l .inv .2 ∙ begun-drop (z .args .n) (shapeFrom (z .args .n) (z .args .sources) (z .args .sinks)) (shape-long (z .args .n) (z .args .sources) (z .args .sinks)) (z .args .rows) (z .args .first) (z .pre .0 .0 .nodes) (rows-long z) (z .pre .1 .0) (z .pre .1 .1) (f .first-moves .result) (first-long z) (f .first-moves .ensures))
+    rounds-whole (a .n) (a .rows .now) (shapeIn (a .n) (a .to .now) (a .bounds .now)) (leads-long (a .n) (a .to .now) (a .bounds .now)) (z .pre .0 .nodes) (z .pre .1 .0) (a .cols .now) (z .pre .1 .1) (m .last .1 .1 .1 .0) (m .ensures) (l .cols) (steps-whole (a .n) (λ i. round g R) (round-same g R) (m .last .1 .1 .1 .0) 8 (l .cols) (rw e at (l .inv .1)) (l .inv .2))
 
 pub columns-spec : {M : Type 1} → statement M
 columns-spec =

@@ -1,74 +1,79 @@
--- `columns::largest_end`: it counts down, so that it meets the records in the order of the definition.
+-- `columns::largest_end`: it counts down, so that it meets the ends in the order of the definition.
 -- Assumes nothing.
-use Prim.Native.Nat.{_≤_, _-_}
+use Prim.Native.Nat.{_≤_, _<_, _-_}
 use native.Mathlib.Omega.{arith}
-use mathlib.Core.Path.{_≡_, ap, sym, _∙_}
+use mathlib.Core.Path.{_≡_, ap, sym}
 use mathlib.Core.List.{map}
-use lib.ListN.{length, take, drop}
+use lib.ListN.{length}
 use Rattle.grid.specs.Lists.{largest}
 use Rattle.grid.specs.Columns.{at}
-use Rattle.graph.specs.Ends.{targetsOf}
-use Rattle.grid.proofs.MoveLaws.{higher-down, higher-none}
+use Rattle.grid.specs.Leads.{part}
+use Rattle.grid.proofs.PartLaws.{part-none, part-down, part-long}
 use borrow.Author.Needs.{needs}
 use Rattle.grid.proofs.columns.largest_end.Statement.{statement}
 use Rattle.grid.proofs.columns.largest_end.Tie as tie
 
 abbrev Inv-loop : tie.InvT-loop
-Inv-loop p n e cols v₀ k₀ v k = (k ≤ e .count) × (v ≡ largest (map (at cols) (targetsOf p (drop k (take (e .count) (e .owner))) (drop k (take (e .count) (e .to))))))
+Inv-loop to a b cols n all v₀ k₀ v k = (a ≤ k) × (k ≤ b) × (v ≡ largest (map (at cols) (part to k b)))
 
 abbrev μ-loop : tie.MeasureT-loop
-μ-loop p n e cols v₀ k₀ v k = k
+μ-loop to a b cols n all v₀ k₀ v k = k
 
-owner-long : (z : tie.Start Inv-loop μ-loop) → z .args .t1 .count ≤ length (z .args .t1 .owner)
-owner-long z = let e : length (z .args .t1 .owner) ≡ 88 = search needs in let h = z .pre .few in omega arith
+long : (z : tie.After-all Inv-loop μ-loop) → length (z .before .args .to .now) ≡ 176
+long z = search needs
 
-to-long : (z : tie.Start Inv-loop μ-loop) → z .args .t1 .count ≤ length (z .args .t1 .to)
-to-long z = let e : length (z .args .t1 .to) ≡ 88 = search needs in let h = z .pre .few in omega arith
+-- the end leads to a node
+node : (c : tie.In-loop Inv-loop μ-loop) → at (c .before .before .before .args .to .now) (c .before .loop .k - 1) < c .before .before .before .args .n
+node c = c .before .before .before .pre .1 (c .before .loop .k - 1) (omega arith)
 
 loop-holds : tie.Need-loop-holds Inv-loop μ-loop
-loop-holds c = let z = c in (search needs, higher-none (z .args .t1 .owner) (z .args .t1 .to) (z .args .t1 .count) (z .args .p) (owner-long z) (to-long z) (at (z .args .t3)))
+loop-holds c =
+    let a = c .before .args in
+    (search needs, search needs, sym (ap (λ l. largest (map (at (a .cols .now)) l)) (part-none (a .to .now) (a .b))))
 
 sub-k : tie.Need-sub-k Inv-loop μ-loop
 sub-k c = search needs
 
-element-copy-out-wide : tie.Need-element-copy-out-wide Inv-loop μ-loop
-element-copy-out-wide c = let h = c .before .before .pre .few in search needs
+cast-c : tie.Need-cast-c Inv-loop μ-loop
+cast-c c = search needs
 
-wide-requires : tie.Need-wide-requires Inv-loop μ-loop
-wide-requires c κs = search needs
+shared-slice-read-c : tie.Need-shared-slice-read-c Inv-loop μ-loop
+shared-slice-read-c c = search needs
 
-element-copy-out-wide-2 : tie.Need-element-copy-out-wide-2 Inv-loop μ-loop
-element-copy-out-wide-2 c = let h = c .before .before .before .before .pre .few in search needs
+cast-c-2 : tie.Need-cast-c-2 Inv-loop μ-loop
+cast-c-2 c = let h = node (c .before) in search needs
 
-wide-requires-2 : tie.Need-wide-requires-2 Inv-loop μ-loop
-wide-requires-2 c κs = search needs
-
-array-read-wide : tie.Need-array-read-wide Inv-loop μ-loop
-array-read-wide c = let z = c .before .before .before .before .before .before in omega (arith, c .wide2 .ensures, z .pre .nodes, z .pre .node (c .before .before .before .before .before .loop .k - 1) (omega arith))
-
-wide-requires-3 : tie.Need-wide-requires-3 Inv-loop μ-loop
-wide-requires-3 c κs = search needs
-
-higher-if-requires : tie.Need-higher-if-requires Inv-loop μ-loop
-higher-if-requires c κs = search needs
+element-copy-out-c : tie.Need-element-copy-out-c Inv-loop μ-loop
+element-copy-out-c c = omega (arith, node (c .before), c .before .before .before .before .pre .0)
 
 loop-less : tie.Need-loop-less Inv-loop μ-loop
 loop-less c = search needs
 
 loop-again : tie.Need-loop-again Inv-loop μ-loop
 loop-again c =
-    let z = c .before .before .before .before .before .before .before .before in
-    let l = c .before .before .before .before .before .before .before .loop in
-    let v : c .before .wide3 .result ≡ at (z .args .t3) (at (z .args .t1 .to) (l .k - 1)) = c .before .wide3 .ensures ∙ ap (at (z .args .t3)) (c .before .before .wide2 .ensures) in (
-      omega arith,
-      c .higher-if .ensures ∙ rw (l .inv .1, c .before .before .before .before .wide .ensures, v) (sym (higher-down (z .args .t1 .owner) (z .args .t1 .to) (z .args .t1 .count) (z .args .p) (owner-long z) (to-long z) (at (z .args .t3)) (l .k) (omega arith) (l .inv .0))),
-    )
+    let i = c .before .before .before in
+    let a = i .before .before .before .args in
+    let l = i .before .loop in
+    let e = part-down (a .to .now) (a .b) (l .k) (omega arith) (l .inv .1) (omega (arith, long (i .before .before))) in
+    (omega arith, omega arith, rw e (omega arith))
+
+loop-less-2 : tie.Need-loop-less-2 Inv-loop μ-loop
+loop-less-2 c = search needs
+
+loop-again-2 : tie.Need-loop-again-2 Inv-loop μ-loop
+loop-again-2 c =
+    let i = c .before .before .before in
+    let a = i .before .before .before .args in
+    let l = i .before .loop in
+    let e = part-down (a .to .now) (a .b) (l .k) (omega arith) (l .inv .1) (omega (arith, long (i .before .before))) in
+    (omega arith, omega arith, rw e (omega arith))
 
 returns : tie.Need-returns Inv-loop μ-loop
 returns c =
+    let a = c .before .before .before .args in
     let l = c .before .loop in
-    let e : l .k ≡ 0 = omega arith in
-    rw e at (l .inv .1)
+    let e : l .k ≡ a .a = omega arith in
+    (rw e at (l .inv .2), part-long (a .to .now) (a .a) (a .b) (omega arith) (omega (arith, long (c .before .before))))
 
 pub largest-end-spec : {M : Type 1} → statement M
 largest-end-spec =
@@ -78,13 +83,12 @@ largest-end-spec =
     μ-loop
     loop-holds
     sub-k
-    element-copy-out-wide
-    wide-requires
-    element-copy-out-wide-2
-    wide-requires-2
-    array-read-wide
-    wide-requires-3
-    higher-if-requires
+    cast-c
+    shared-slice-read-c
+    cast-c-2
+    element-copy-out-c
     loop-less
     loop-again
+    loop-less-2
+    loop-again-2
     returns)

@@ -29,7 +29,7 @@ abbrev μ-loop : tie.MeasureT-loop
 μ-loop rows cols n height start pairs table₀ new₀ p₀ table new p = pairs - p
 
 loop-holds : tie.Need-loop-holds Inv-loop2 μ-loop2 Inv-loop μ-loop
-loop-holds c = (search needs, search needs, refl, table-none (c .args .start) (extra (take (c .args .n) (c .args .rows)) (take (c .args .n) (c .args .cols))) (c .pre .1 .2), refl)
+loop-holds c = (search needs, search needs, refl, table-none (c .args .start) (extra (take (c .args .n) (c .args .rows .now)) (take (c .args .n) (c .args .cols .now))) (c .pre .1 .2), refl)
 
 mul-x : tie.Need-mul-x Inv-loop2 μ-loop2 Inv-loop μ-loop
 mul-x c = search needs
@@ -49,8 +49,14 @@ in-column-requires-2 c κs = search needs
 loop2-holds : tie.Need-loop2-holds Inv-loop2 μ-loop2 Inv-loop μ-loop
 loop2-holds c = (search needs, refl)
 
+cast-if2 : tie.Need-cast-if2 Inv-loop2 μ-loop2 Inv-loop μ-loop
+cast-if2 c = search needs
+
 array-read-if2 : tie.Need-array-read-if2 Inv-loop2 μ-loop2 Inv-loop μ-loop
 array-read-if2 c = search needs
+
+cast-if3 : tie.Need-cast-if3 Inv-loop2 μ-loop2 Inv-loop μ-loop
+cast-if3 c = search needs
 
 array-read-if3 : tie.Need-array-read-if3 Inv-loop2 μ-loop2 Inv-loop μ-loop
 array-read-if3 c = search needs
@@ -66,8 +72,8 @@ loop2-again c =
     let z = c .before .before .before .before .before .before .before in
     let l = c .before .before .before .before .before .before .loop in
     let r = c .before .before .loop2 .row in
-    let R = take (z .args .n) (z .args .rows) in
-    let C = take (z .args .n) (z .args .cols) in
+    let R = take (z .args .n) (z .args .rows .now) in
+    let C = take (z .args .n) (z .args .cols .now) in
     let x = z .args .start + 2 * l .p in
     let i = c .before .before .before .before .in-column in
     let j = c .before .before .before .in-column2 in
@@ -81,12 +87,12 @@ loop2-again c =
 collided : (c : tie.Joined1 Inv-loop2 μ-loop2 Inv-loop μ-loop) →
     let z = c .before .before .before .before .before .before in
     let x = z .args .start + 2 * c .before .before .before .before .before .loop .p in
-    c .if1 .collision ≡ collision (take (z .args .n) (z .args .rows)) (take (z .args .n) (z .args .cols)) x (z .args .height)
+    c .if1 .collision ≡ collision (take (z .args .n) (z .args .rows .now)) (take (z .args .n) (z .args .cols .now)) x (z .args .height)
 collided c =
     let z = c .before .before .before .before .before .before in
     let r = c .before .loop2 .row in
-    let R = take (z .args .n) (z .args .rows) in
-    let C = take (z .args .n) (z .args .cols) in
+    let R = take (z .args .n) (z .args .rows .now) in
+    let C = take (z .args .n) (z .args .cols .now) in
     let x = z .args .start + 2 * c .before .before .before .before .before .loop .p in
     let i = c .before .before .before .in-column in
     let j = c .before .before .in-column2 in
@@ -98,11 +104,11 @@ collided c =
 
 more-is : (c : tie.After-one-if Inv-loop2 μ-loop2 Inv-loop μ-loop) →
     let z = c .before .before .before .before .before .before .before in
-    c .one-if .result ≡ extra (take (z .args .n) (z .args .rows)) (take (z .args .n) (z .args .cols)) (z .args .start + 2 * c .before .before .before .before .before .before .loop .p)
+    c .one-if .result ≡ extra (take (z .args .n) (z .args .rows .now)) (take (z .args .n) (z .args .cols .now)) (z .args .start + 2 * c .before .before .before .before .before .before .loop .p)
 more-is c =
     let z = c .before .before .before .before .before .before .before in
-    let R = take (z .args .n) (z .args .rows) in
-    let C = take (z .args .n) (z .args .cols) in
+    let R = take (z .args .n) (z .args .rows .now) in
+    let C = take (z .args .n) (z .args .cols .now) in
     let x = z .args .start + 2 * c .before .before .before .before .before .before .loop .p in
     c .one-if .ensures ∙ ap (λ (b : Bool). cond b 1 0) (collided (c .before) ∙ ap (collision R C x) (z .pre .1 .0))
 
@@ -113,17 +119,14 @@ one-if-requires c κs = search needs
 few : (c : tie.After-one-if Inv-loop2 μ-loop2 Inv-loop μ-loop) → c .one-if .result ≤ 1
 few c = rw (c .one-if .ensures) (extra-le (c .before .if1 .collision))
 
-cast-table : tie.Need-cast-table Inv-loop2 μ-loop2 Inv-loop μ-loop
-cast-table c = let h = few c in search needs
+cast-i : tie.Need-cast-i Inv-loop2 μ-loop2 Inv-loop μ-loop
+cast-i c = search needs
 
 array-write-table : tie.Need-array-write-table Inv-loop2 μ-loop2 Inv-loop μ-loop
 array-write-table c = search needs
 
 add-table : tie.Need-add-table Inv-loop2 μ-loop2 Inv-loop μ-loop
 add-table c = let h = few c in search needs
-
-cast-table-2 : tie.Need-cast-table-2 Inv-loop2 μ-loop2 Inv-loop μ-loop
-cast-table-2 c = let h = few c in search needs
 
 add-table-2 : tie.Need-add-table-2 Inv-loop2 μ-loop2 Inv-loop μ-loop
 add-table-2 c = search needs
@@ -147,8 +150,8 @@ loop-again : tie.Need-loop-again Inv-loop2 μ-loop2 Inv-loop μ-loop
 loop-again c =
     let z = c .before .before .before .before .before .before .before in
     let l = c .before .before .before .before .before .before .loop in
-    let R = take (z .args .n) (z .args .rows) in
-    let C = take (z .args .n) (z .args .cols) in
+    let R = take (z .args .n) (z .args .rows .now) in
+    let C = take (z .args .n) (z .args .cols .now) in
     let m = c .one-if .result in
     let h = few c in
     let k = l .inv .4 in
@@ -181,16 +184,17 @@ new-columns-spec =
     add-in-column
     in-column-requires-2
     loop2-holds
+    cast-if2
     array-read-if2
+    cast-if3
     array-read-if3
     add-row
     loop2-less
     loop2-again
     one-if-requires
-    cast-table
+    cast-i
     array-write-table
     add-table
-    cast-table-2
     add-table-2
     array-write-table-2
     add-new

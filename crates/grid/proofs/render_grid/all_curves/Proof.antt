@@ -1,7 +1,7 @@
 -- `render_grid::all_curves`: after k turns the curves are those of the first k boxes; within a turn, what is drawn and what is left make up those of box k.
 -- Assumes nothing.
 use Prim.Native.Nat.{ℕ, _+_, _-_, _*_, _/_, _<_, _≤_}
-use mathlib.Core.Path.{_≡_, refl, ap, sym, _∙_, subst}
+use mathlib.Core.Path.{_≡_, refl, ap, sym, _∙_}
 use mathlib.Core.Logic.{⊎-elim}
 use mathlib.Core.List.{[], _∷_}
 use native.Mathlib.Omega.{arith}
@@ -75,7 +75,7 @@ into-low c =
     let z = c .before .before .before in
     let a = z .args in
     let k = c .before .before .loop .k in
-    subst Low (sym (c .run-at .ensures))
+    rw (c .run-at .ensures)
     (run-low (a .nodes .now) (a .xs .now) (a .ys .now) (a .cols .now) (a .rows .now) 2 k (z .pre .1 .1 .1 .0 k (c .before .loop-test .taken)))
 
 run-low-2 : (c : tie.After-run-at2 Inv-loop2 μ-loop2 Inv-loop μ-loop) → Low (c .run-at2 .result)
@@ -84,7 +84,7 @@ run-low-2 c =
     let a = z .args in
     let j = c .before .before .before .before .before .before .before .loop2 .j in
     let q = getD (a .t1 .items) j noItem .to in
-    subst Low (sym (c .run-at2 .ensures))
+    rw (c .run-at2 .ensures)
     (run-low (a .nodes .now) (a .xs .now) (a .ys .now) (a .cols .now) (a .rows .now) 5 q (z .pre .1 .1 .1 .1 .0 q (to-below z j (c .before .before .before .before .before .before .loop2-test .taken))))
 
 -- the curve is added, if the output was found
