@@ -2,7 +2,7 @@
 use mathlib.Core.Path.{_≡_, refl, ap, _∙_}
 use mathlib.Core.Bool.{Bool, true, false}
 use mathlib.Core.List.{[], _∷_, _++_, append-nil}
-use Prim.Native.Nat.{ℕ, zero, suc, _+_, _*_, _/_, _%_, _≤_, _<_}
+use Prim.Native.Nat.{ℕ, zero, suc, _+_, _*_, _/_, _%_, _^_, _≤_, _<_}
 use native.Mathlib.Nat.{div-lt-self}
 use native.Mathlib.Omega.{arith}
 use borrow.Author.Tests.{lt-ltb, le-ltb, ltb-true, ltb-false}
@@ -45,6 +45,11 @@ length-one n h = rw (digits-one n h)
 
 pub length-tens : (n : ℕ) → 10 ≤ n → length (digits n) ≡ length (digits (n / 10)) + 1
 length-tens n h = rw (digits-tens n h, length-append)
+
+-- n has k + 1 digits from 10 ^ k on, up to the next power
+pub length-from : (k n : ℕ) → 10 ^ k ≤ n → n < 10 ^ suc k → length (digits n) ≡ suc k
+length-from zero n h l = length-one n l
+length-from (suc k) n h l = omega (arith, length-tens n (omega arith), length-from k (n / 10) (omega arith) (omega arith))
 
 with-bound : (f n : ℕ) → n < f → length (digits n) ≤ suc n
 with-bound zero n h = absurd (omega arith)

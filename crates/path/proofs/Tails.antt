@@ -15,11 +15,12 @@ pub record Tail (buf₀ : List ℕ) (at n : ℕ) (buf : List ℕ) (m i : ℕ) : 
   pub rest : List ℕ
   pub split : digits n ≡ digits m ++ rest
   pub here : i ≡ at + length (digits m)
+  pub small : m ≤ n
   pub same : buf ≡ put buf₀ i rest
 
 module _ (buf₀ : List ℕ) (at n : ℕ) where
   pub tail-starts : (e : ℕ) → e ≡ length (digits n) → Tail buf₀ at n buf₀ n (at + e)
-  tail-starts e h = record { rest = []; split = sym (append-nil (digits n)); here = rw h; same = refl }
+  tail-starts e h = record { rest = []; split = sym (append-nil (digits n)); here = rw h; small = omega arith; same = refl }
 
   pub tail-long : (buf : List ℕ) (m i : ℕ) → Tail buf₀ at n buf m i → length buf ≡ length buf₀
   tail-long buf m i t = ap length (t .same) ∙ length-sets buf₀ i (t .rest)
@@ -39,6 +40,7 @@ module _ (buf₀ : List ℕ) (at n : ℕ) where
         rest = (48 + m % 10) ∷ t .rest;
         split = t .split ∙ rw (digits-tens m h) (append-assoc (digits (m / 10)) ((48 + m % 10) ∷ []) (t .rest));
         here = omega (arith, t .here, length-tens m h);
+        small = omega (arith, t .small);
         same = ap (λ (b : List ℕ). set b (i - 1) (48 + m % 10)) (t .same ∙ ap (λ (k : ℕ). put buf₀ k (t .rest)) e) ∙ put-before (t .rest) buf₀ (i - 1) (48 + m % 10);
       }
 

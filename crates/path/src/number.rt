@@ -5,20 +5,41 @@ ghost use lib.ListN.{length};
 ghost use Rattle.path.specs.Number.{digits, numberText};
 ghost use Rattle.path.specs.Writer.{IsPut};
 
-// How many digits n has.
+// How many digits n has, by comparisons alone.
 fn digits_len(n: u32) -> usize
     ensures { λ r. ⌜ r ≡ length (digits n) ⌝ }
 {
-    let mut m = n;
-    let mut k = 1usize;
-    while m >= 10 {
-        m = m / 10;
-        k += 1;
+    if n < 10 {
+        return 1;
     }
-    k
+    if n < 100 {
+        return 2;
+    }
+    if n < 1000 {
+        return 3;
+    }
+    if n < 10000 {
+        return 4;
+    }
+    if n < 100000 {
+        return 5;
+    }
+    if n < 1000000 {
+        return 6;
+    }
+    if n < 10000000 {
+        return 7;
+    }
+    if n < 100000000 {
+        return 8;
+    }
+    if n < 1000000000 {
+        return 9;
+    }
+    10
 }
 
-// The digits of n at a place, from the last to the first.
+// The digits of n at a place, from the last to the first, with one division a turn.
 fn put_digits(buf: &mut [u8], at: usize, n: u32) -> usize
     requires { ⌜ at + length (digits n) ≤ length (now buf) ⌝ }
     ensures { λ r. ⌜ IsPut (now (buf .entry)) at (digits n) (now (buf .exit)) r ⌝ }
@@ -28,8 +49,9 @@ fn put_digits(buf: &mut [u8], at: usize, n: u32) -> usize
     let mut i = e;
     while 10 <= m {
         i -= 1;
-        buf[i] = 48 + (m % 10) as u8;
-        m = m / 10;
+        let q = m / 10;
+        buf[i] = 48 + (m - 10 * q) as u8;
+        m = q;
     }
     buf[at] = 48 + m as u8;
     e
