@@ -121,16 +121,22 @@ over-is n ys outs bs k h (i ∷ is) a =
 abbrev moved : Run → ℕ → ℕ → Run
 moved r x y = record { x = r .x + x; y = r .y + y; gap = r .gap }
 
--- the lines that were stored
-pub begun : (gap : ℕ) (ps ss xs : List ℕ) (last : ℕ) → last ≡ largest ps → last ≤ 143 → xs ≡ beginsTo gap ps ss (last + 1) →
-    (c : ℕ) → c ≤ largest ps → getD xs c 0 ≡ begins gap ps ss c
+-- the lines of boxes at these places, with these sizes, begin at xs
+abbrev pub Begun : ℕ → List ℕ → List ℕ → List ℕ → Type 0
+Begun gap ps ss xs = (c : ℕ) → c ≤ largest ps → getD xs c 0 ≡ begins gap ps ss c
+
+pub begun : (gap : ℕ) (ps ss xs : List ℕ) (last : ℕ) → last ≡ largest ps → last ≤ 143 → xs ≡ beginsTo gap ps ss (last + 1) → Begun gap ps ss xs
 begun gap ps ss xs last e l is c h = ap (λ (v : List ℕ). getD v c 0) is ∙ filled-at (begins gap ps ss) 144 0 (last + 1) c (omega arith) (omega arith)
+
+pub begun-le : (gap : ℕ) (ps ss xs : List ℕ) → gap ≤ 2048 → All (λ s. s ≤ 8389000) ss → Begun gap ps ss xs → (c : ℕ) → c ≤ largest ps → c ≤ 143 → getD xs c 0 ≤ 1250000000
+begun-le gap ps ss xs g a e c h l = omega (arith, e c h, begins-le gap ps ss g a c)
+
+-- the sheet's size along the lines
+total-is : (gap : ℕ) (ps ss xs : List ℕ) → Begun gap ps ss xs → getD xs (largest ps) 0 + extent ps ss (largest ps) + 128 ≡ reach gap ps ss
+total-is gap ps ss xs e = ap (λ (i : ℕ). i + extent ps ss (largest ps) + 128) (e (largest ps) (omega arith))
 
 module _ (g : Tables) (seat : Seated g) (cols rows : List ℕ) (wide : g .n ≤ length cols) (tall : g .n ≤ length rows)
     (in-cols : Bounded 143 cols (g .n)) (in-rows : Bounded 143 rows (g .n)) (ns : List ℕ) (noted : Noted (graphOf g) (g .n) ns) where
-  few : g .n ≤ 48
-  few = seat .linked .nodes
-
   long : length (graphOf g) ≡ g .n
   long = graph-long g
 
@@ -149,27 +155,31 @@ module _ (g : Tables) (seat : Seated g) (cols rows : List ℕ) (wide : g .n ≤ 
   abbrev node : ℕ → RenderNode
   node k = renderOf (nodeAt (graphOf g) k)
 
+  -- field i of the boxes
+  module _ (i : ℕ) (below : i < 8) where
+    sizes-are : (size : Node → ℕ) → ((k : ℕ) → getD (numbersOf (node k)) i 0 ≡ size (nodeAt (graphOf g) k)) → sizesIn ns i (g .n) ≡ map size (graphOf g)
+    sizes-are size e =
+        tabulate-same (λ k. getD ns (8 * k + i) 0) (λ k. size (nodeAt (graphOf g) k)) 0 (g .n) (λ k l u. noted .number k (omega arith) i below ∙ e k)
+        ∙ sym (map-nodes size)
+
+    sizes-small : ((k : ℕ) → k < g .n → getD (numbersOf (node k)) i 0 ≤ 8389000) → All (λ s. s ≤ 8389000) (sizesIn ns i (g .n))
+    sizes-small m =
+        all-tabulate (λ s. s ≤ 8389000) (λ k. getD ns (8 * k + i) 0) 0 (g .n)
+        (λ k l u. let h : k < g .n = omega arith in omega (arith, noted .number k h i below, m k h))
+
   widths-are : sizesIn ns 0 (g .n) ≡ widths (graphOf g)
   unfolding renderOf
-  widths-are =
-      tabulate-same (λ k. getD ns (8 * k + 0) 0) (λ k. boxWidth (nodeAt (graphOf g) k)) 0 (g .n) (λ i l u. noted .number i (omega arith) 0 (omega arith))
-      ∙ sym (map-nodes boxWidth)
+  widths-are = sizes-are 0 (omega arith) boxWidth (λ k. refl)
 
   heights-are : sizesIn ns 1 (g .n) ≡ tallnesses (graphOf g)
   unfolding renderOf
-  heights-are =
-      tabulate-same (λ k. getD ns (8 * k + 1) 0) (λ k. boxHeight (nodeAt (graphOf g) k)) 0 (g .n) (λ i l u. noted .number i (omega arith) 1 (omega arith))
-      ∙ sym (map-nodes boxHeight)
+  heights-are = sizes-are 1 (omega arith) boxHeight (λ k. refl)
 
   pub small-widths : AllModest (graphOf g) (g .n) → All (λ s. s ≤ 8389000) (sizesIn ns 0 (g .n))
-  small-widths m =
-      all-tabulate (λ s. s ≤ 8389000) (λ k. getD ns (8 * k + 0) 0) 0 (g .n)
-      (λ i l u. let h : i < g .n = omega arith in omega (arith, noted .number i h 0 (omega arith), m i h .wide))
+  small-widths m = sizes-small 0 (omega arith) (λ k h. m k h .wide)
 
   pub small-heights : AllModest (graphOf g) (g .n) → All (λ s. s ≤ 8389000) (sizesIn ns 1 (g .n))
-  small-heights m =
-      all-tabulate (λ s. s ≤ 8389000) (λ k. getD ns (8 * k + 1) 0) 0 (g .n)
-      (λ i l u. let h : i < g .n = omega arith in omega (arith, noted .number i h 1 (omega arith), m i h .tall))
+  small-heights m = sizes-small 1 (omega arith) (λ k h. omega (arith, m k h .tall))
 
   pub last-column : largest cs ≤ 143
   last-column = largest-le 143 (g .n) cols wide in-cols
@@ -178,8 +188,7 @@ module _ (g : Tables) (seat : Seated g) (cols rows : List ℕ) (wide : g .n ≤ 
   last-row = largest-le 143 (g .n) rows tall in-rows
 
   -- columns begin at xs and rows at ys
-  module _ (xs ys : List ℕ) (xs-at : (c : ℕ) → c ≤ largest cs → getD xs c 0 ≡ begins 1024 cs (sizesIn ns 0 (g .n)) c)
-      (ys-at : (c : ℕ) → c ≤ largest rs → getD ys c 0 ≡ begins 2048 rs (sizesIn ns 1 (g .n)) c) where
+  module _ (xs ys : List ℕ) (xs-at : Begun 1024 cs (sizesIn ns 0 (g .n)) xs) (ys-at : Begun 2048 rs (sizesIn ns 1 (g .n)) ys) where
     abbrev box : ℕ → Box
     box = boxOf (graphOf g) cs rs
 
@@ -187,15 +196,17 @@ module _ (g : Tables) (seat : Seated g) (cols rows : List ℕ) (wide : g .n ≤ 
     in-largest places l k h =
         omega (arith, getD-take (g .n) places k 0 h, at-largest (take (g .n) places) k (omega (arith, length-take-le (g .n) places l)))
 
+    place-at : (gap : ℕ) (places ss ts starts : List ℕ) → g .n ≤ length places → ss ≡ ts → Begun gap (take (g .n) places) ss starts → (k : ℕ) → k < g .n →
+        getD starts (getD places k 0) 0 ≡ begins gap (take (g .n) places) ts (at (take (g .n) places) k)
+    place-at gap places ss ts starts l e b k h =
+        b (getD places k 0) (in-largest places l k h) ∙ ap (λ (us : List ℕ). begins gap (take (g .n) places) us (getD places k 0)) e
+        ∙ ap (begins gap (take (g .n) places) ts) (sym (getD-take (g .n) places k 0 h))
+
     x-at : (k : ℕ) → k < g .n → getD xs (getD cols k 0) 0 ≡ box k .x
-    x-at k h =
-        xs-at (getD cols k 0) (in-largest cols wide k h) ∙ ap (λ (ss : List ℕ). begins 1024 cs ss (getD cols k 0)) widths-are
-        ∙ ap (begins 1024 cs (widths (graphOf g))) (sym (getD-take (g .n) cols k 0 h))
+    x-at = place-at 1024 cols (sizesIn ns 0 (g .n)) (widths (graphOf g)) xs wide widths-are xs-at
 
     y-at : (k : ℕ) → k < g .n → getD ys (getD rows k 0) 0 ≡ box k .y
-    y-at k h =
-        ys-at (getD rows k 0) (in-largest rows tall k h) ∙ ap (λ (ss : List ℕ). begins 2048 rs ss (getD rows k 0)) heights-are
-        ∙ ap (begins 2048 rs (tallnesses (graphOf g))) (sym (getD-take (g .n) rows k 0 h))
+    y-at = place-at 2048 rows (sizesIn ns 1 (g .n)) (tallnesses (graphOf g)) ys tall heights-are ys-at
 
     box-is : (k : ℕ) → k < g .n → boxFrom ns xs ys cols rows k ≡ boxRecord (box k)
     unfolding drawn renderOf
@@ -235,8 +246,8 @@ module _ (g : Tables) (seat : Seated g) (cols rows : List ℕ) (wide : g .n ≤ 
             first = omega (arith, first);
             height = omega (arith, height);
             gap = omega (arith, gap);
-            across = omega (arith, xs-at (getD cols k 0) (in-largest cols wide k h), begins-le 1024 cs (sizesIn ns 0 (g .n)) (omega arith) (small-widths m) (getD cols k 0), in-cols .most k h);
-            down = omega (arith, ys-at (getD rows k 0) (in-largest rows tall k h), begins-le 2048 rs (sizesIn ns 1 (g .n)) (omega arith) (small-heights m) (getD rows k 0), in-rows .most k h);
+            across = begun-le 1024 cs (sizesIn ns 0 (g .n)) xs (omega arith) (small-widths m) xs-at (getD cols k 0) (in-largest cols wide k h) (in-cols .most k h);
+            down = begun-le 2048 rs (sizesIn ns 1 (g .n)) ys (omega arith) (small-heights m) ys-at (getD rows k 0) (in-largest rows tall k h) (in-rows .most k h);
           }
 
     number-at : (k : ℕ) → k < g .n → (from j i : ℕ) → from + j ≡ i → i < 8 → getD ns (8 * k + from + j) 0 ≡ getD (numbersOf (node k)) i 0
@@ -337,11 +348,6 @@ module _ (g : Tables) (seat : Seated g) (cols rows : List ℕ) (wide : g .n ≤ 
     curves-are : each noCurves (curvesAt us vs ins outs) (g .n) ≡ held (curves whole)
     unfolding sheetOf curves
     curves-are = made (g .n) (omega arith) ∙ ap (λ (m : ℕ). held (curvesFrom bs 0 (tabulate box 0 m))) (sym long)
-
-    -- the sheet's size along the lines
-    total-is : (gap : ℕ) (ps ss starts : List ℕ) → ((c : ℕ) → c ≤ largest ps → getD starts c 0 ≡ begins gap ps ss c) →
-        getD starts (largest ps) 0 + extent ps ss (largest ps) + 128 ≡ reach gap ps ss
-    total-is gap ps ss starts e = ap (λ (i : ℕ). i + extent ps ss (largest ps) + 128) (e (largest ps) (omega arith))
 
     -- what the code makes, one after the other, is the definition's
     pub laid-is : (right low width height : ℕ) (boxes : List BoxRecord) (all : Curves) → right ≡ largest cs → low ≡ largest rs →

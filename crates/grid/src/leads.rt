@@ -20,16 +20,17 @@ fn put_ends(e: Ends, p: u8, to: &mut [u8; 176], k: usize) -> usize
     ensures to { λ _. ⌜ now (to .exit) ≡ sets (now (to .entry)) k (endsOf e p) ⌝ }
     ensures end { λ r. ⌜ r ≡ k + length (endsOf e p) ⌝ }
 {
-    let mut end = k;
-    let mut j = 0usize;
-    while j < e.count {
-        if e.owner[j] == p {
-            to[end] = e.to[j];
+    let last = e.count as u32;
+    let mut end = k as u32;
+    let mut j = 0u32;
+    while j < last {
+        if e.owner[j as usize] == p {
+            to[end as usize] = e.to[j as usize];
             end += 1;
         }
         j += 1;
     }
-    end
+    end as usize
 }
 
 // The sources and the sinks of n nodes.

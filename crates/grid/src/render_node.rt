@@ -64,10 +64,10 @@ pub fn ends_of(t: Table, p: u8) -> Ends
 {
     let mut bytes: u16 = 0;
     let mut count: u8 = 0;
-    let mut k = t.count;
+    let mut k = t.count as u32;
     while 0 < k {
         k -= 1;
-        let e = t.items[k];
+        let e = t.items[k as usize];
         if e.owner == p {
             bytes += e.len as u16;
             count += 1;
@@ -109,10 +109,10 @@ pub fn center_of(t: Lines, name: u8, p: u8) -> Center
     let last = number_line(name);
     let mut longest = last.longest;
     let mut count = last.count;
-    let mut k = t.count;
+    let mut k = t.count as u32;
     while 0 < k {
         k -= 1;
-        let e = t.items[k];
+        let e = t.items[k as usize];
         if e.owner == p {
             longest = longer(e.len, longest);
             count += 1;

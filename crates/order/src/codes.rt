@@ -22,18 +22,19 @@ fn targets_of(e: Ends, p: u8) -> Targets
     ensures { λ r. ⌜ r ≡ record { to = padded 88 0 (endsOf e p); count = length (endsOf e p) } ⌝ }
 {
     let mut to = [0u8; 88];
-    let mut count = 0usize;
-    let mut k = 0usize;
-    while k < e.count {
-        if e.owner[k] == p {
-            to[count] = e.to[k];
+    let last = e.count as u32;
+    let mut count = 0u32;
+    let mut k = 0u32;
+    while k < last {
+        if e.owner[k as usize] == p {
+            to[count as usize] = e.to[k as usize];
             count += 1;
         }
         k += 1;
     }
     Targets {
         to: to,
-        count: count,
+        count: count as usize,
     }
 }
 

@@ -22,10 +22,10 @@ abbrev upTo : Ends → ℕ → ℕ → List ℕ
 upTo e p j = targetsOf p (take j (e .owner)) (take j (e .to))
 
 abbrev Inv-loop : tie.InvT-loop
-Inv-loop p to₀ k e end₀ j₀ to end j = (j ≤ e .count) × (to ≡ sets to₀ k (upTo e p j)) × (end ≡ k + length (upTo e p j))
+Inv-loop p to₀ k e last end₀ j₀ to end j = (j ≤ e .count) × (to ≡ sets to₀ k (upTo e p j)) × (end ≡ k + length (upTo e p j))
 
 abbrev μ-loop : tie.MeasureT-loop
-μ-loop p to₀ k e end₀ j₀ to end j = e .count - j
+μ-loop p to₀ k e last end₀ j₀ to end j = e .count - j
 
 owner-long : (z : tie.Start Inv-loop μ-loop) → length (z .args .t1 .owner) ≡ 88
 owner-long z = search needs
@@ -54,14 +54,29 @@ room h l e =
       targets-more (z .args .p) (h .loop .j + 1) (a .count) (a .owner) (a .to) (omega arith) (omega (arith, owner-long z, z .pre .0)) (omega (arith, to-long z, z .pre .0)),
     )
 
+cast-last : tie.Need-cast-last Inv-loop μ-loop
+cast-last c = search needs
+
+cast-end : tie.Need-cast-end Inv-loop μ-loop
+cast-end c = omega (arith, c .pre .1)
+
 loop-holds : tie.Need-loop-holds Inv-loop μ-loop
 loop-holds c = (search needs, refl, omega arith)
+
+cast-if1 : tie.Need-cast-if1 Inv-loop μ-loop
+cast-if1 c = search needs
 
 element-copy-out-if1 : tie.Need-element-copy-out-if1 Inv-loop μ-loop
 element-copy-out-if1 c = search needs
 
+cast-to : tie.Need-cast-to Inv-loop μ-loop
+cast-to c = search needs
+
 element-copy-out-to : tie.Need-element-copy-out-to Inv-loop μ-loop
 element-copy-out-to c = search needs
+
+cast-to-2 : tie.Need-cast-to-2 Inv-loop μ-loop
+cast-to-2 c = omega (arith, room (c .before .before .before .before) (c .before .before .before .loop-test .taken) (c .before .if1 .taken))
 
 element-write-to : tie.Need-element-write-to Inv-loop μ-loop
 element-write-to c = room (c .before .before .before .before) (c .before .before .before .loop-test .taken) (c .before .if1 .taken)
@@ -91,6 +106,13 @@ loop-again c =
     (search needs, w .1 ∙ rw e (h .loop .inv .1), w .2 ∙ rw e (h .loop .inv .2)))
     (c .if1 .came)
 
+cast-result : tie.Need-cast-result Inv-loop μ-loop
+cast-result c =
+    let h = c .before in
+    let z = h .before in
+    let e : h .loop .j ≡ z .args .t1 .count = omega arith in
+    omega (arith, h .loop .inv .2 ∙ ap (λ j. z .args .k + length (upTo (z .args .t1) (z .args .p) j)) e, z .pre .1)
+
 returns : tie.Need-returns Inv-loop μ-loop
 returns c =
     let h = c .before in
@@ -105,12 +127,18 @@ put-ends-spec =
     (tie.spec
     Inv-loop
     μ-loop
+    cast-last
+    cast-end
     loop-holds
+    cast-if1
     element-copy-out-if1
+    cast-to
     element-copy-out-to
+    cast-to-2
     element-write-to
     add-end
     add-j
     loop-less
     loop-again
+    cast-result
     returns)

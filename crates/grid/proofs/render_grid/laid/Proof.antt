@@ -7,12 +7,9 @@ use native.Mathlib.Omega.{arith}
 use lib.ListN.{length, take, getD}
 use Rattle.laws.specs.Lists.{All}
 use Rattle.graph.specs.Tables.{graphOf}
-use Rattle.grid.specs.Lists.{largest}
-use Rattle.grid.specs.RenderGrid.{begins}
 use Rattle.grid.specs.Rendered.{Noted, AllModest}
 use Rattle.grid.specs.Laid.{Bounded, sizesIn, Movable}
-use Rattle.grid.proofs.LaidLaws.{begins-le}
-use Rattle.grid.proofs.SheetLaws.{begun, small-widths, small-heights, last-column, last-row, inputs-move, outputs-move, laid-is}
+use Rattle.grid.proofs.SheetLaws.{Begun, begun, begun-le, small-widths, small-heights, last-column, last-row, inputs-move, outputs-move, laid-is}
 use borrow.Author.Needs.{needs}
 use Rattle.grid.proofs.render_grid.laid.Statement.{statement}
 use Rattle.grid.proofs.render_grid.laid.Tie as tie
@@ -78,10 +75,10 @@ module _ (b : tie.After-line-begins2) where
   abbrev ys : List ℕ
   ys = b .line-begins2 .last .1 .1 .1 .1 .1 .1 .0
 
-  xs-at : (d : ℕ) → d ≤ largest (take n (cols a)) → getD xs d 0 ≡ begins 1024 (take n (cols a)) (sizesIn (ns a) 0 n) d
+  xs-at : Begun 1024 (take n (cols a)) (sizesIn (ns a) 0 n) xs
   xs-at = begun 1024 (take n (cols a)) (sizesIn (ns a) 0 n) xs right (a .before .before .largest-of .ensures) (right-le a) (b .before .before .before .line-begins .ensures)
 
-  ys-at : (d : ℕ) → d ≤ largest (take n (rows a)) → getD ys d 0 ≡ begins 2048 (take n (rows a)) (sizesIn (ns a) 1 n) d
+  ys-at : Begun 2048 (take n (rows a)) (sizesIn (ns a) 1 n) ys
   ys-at = begun 2048 (take n (rows a)) (sizesIn (ns a) 1 n) ys low (a .largest-of2 .ensures) (low-le a) (b .line-begins2 .ensures)
 
   inputs-small : (k : ℕ) → k < n → Movable (ns a) xs ys (cols a) (rows a) 2 k
@@ -91,10 +88,10 @@ module _ (b : tie.After-line-begins2) where
   outputs-small = outputs-move (z a .args .g) (z a .pre .0) (cols a) (rows a) (cols-room a) (rows-room a) (z a .pre .1 .1) (low-rows a) (ns a) (noted a) xs ys xs-at ys-at (modest a)
 
   last-x : getD xs right 0 ≤ 1250000000
-  last-x = omega (arith, xs-at right (omega (arith, a .before .before .largest-of .ensures)), begins-le 1024 (take n (cols a)) (sizesIn (ns a) 0 n) (omega arith) (wide a) right, right-le a)
+  last-x = begun-le 1024 (take n (cols a)) (sizesIn (ns a) 0 n) xs (omega arith) (wide a) xs-at right (omega (arith, a .before .before .largest-of .ensures)) (right-le a)
 
   last-y : getD ys low 0 ≤ 1250000000
-  last-y = omega (arith, ys-at low (omega (arith, a .largest-of2 .ensures)), begins-le 2048 (take n (rows a)) (sizesIn (ns a) 1 n) (omega arith) (tall a) low, low-le a)
+  last-y = begun-le 2048 (take n (rows a)) (sizesIn (ns a) 1 n) ys (omega arith) (tall a) ys-at low (omega (arith, a .largest-of2 .ensures)) (low-le a)
 
 render-nodes-requires : tie.Need-render-nodes-requires
 render-nodes-requires c κs = search needs

@@ -35,6 +35,9 @@ room z = let e : length (z .args .t1 .items) ≡ 128 = search (needs, mapped-lon
 number-line-requires : tie.Need-number-line-requires Inv-loop μ-loop
 number-line-requires c κs = search needs
 
+cast-k : tie.Need-cast-k Inv-loop μ-loop
+cast-k c = search needs
+
 loop-holds : tie.Need-loop-holds Inv-loop μ-loop
 loop-holds c =
     let z = c .before in
@@ -44,6 +47,9 @@ loop-holds c =
 
 sub-k : tie.Need-sub-k Inv-loop μ-loop
 sub-k c = search needs
+
+cast-e : tie.Need-cast-e Inv-loop μ-loop
+cast-e c = search needs
 
 mul-e : tie.Need-mul-e Inv-loop μ-loop
 mul-e c = search needs
@@ -92,8 +98,10 @@ center-of-spec =
     Inv-loop
     μ-loop
     number-line-requires
+    cast-k
     loop-holds
     sub-k
+    cast-e
     mul-e
     element-copy-out-e
     longer-requires

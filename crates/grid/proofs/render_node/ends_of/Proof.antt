@@ -30,6 +30,9 @@ abbrev μ-loop : tie.MeasureT-loop
 room : (z : tie.Start Inv-loop μ-loop) → z .args .t1 .count ≤ length (z .args .t1 .items)
 room z = let e : length (z .args .t1 .items) ≡ 88 = search (needs, mapped-long) in let h = z .pre in omega arith
 
+cast-k : tie.Need-cast-k Inv-loop μ-loop
+cast-k c = search needs
+
 loop-holds : tie.Need-loop-holds Inv-loop μ-loop
 loop-holds c =
     let e = none-left (λ (r : Item). r .owner) edgeOf noItem (c .args .p) (c .args .t1 .items) (c .args .t1 .count) (room c) (c .args .t1 .count) (omega arith) in
@@ -37,6 +40,9 @@ loop-holds c =
 
 sub-k : tie.Need-sub-k Inv-loop μ-loop
 sub-k c = search needs
+
+cast-e : tie.Need-cast-e Inv-loop μ-loop
+cast-e c = search needs
 
 mul-e : tie.Need-mul-e Inv-loop μ-loop
 mul-e c = search needs
@@ -87,8 +93,10 @@ ends-of-spec =
     (tie.spec
     Inv-loop
     μ-loop
+    cast-k
     loop-holds
     sub-k
+    cast-e
     mul-e
     element-copy-out-e
     cast-bytes

@@ -20,10 +20,10 @@ abbrev upTo : Ends → ℕ → ℕ → List ℕ
 upTo e p k = targetsOf p (take k (e .owner)) (take k (e .to))
 
 abbrev Inv-loop : tie.InvT-loop
-Inv-loop p e to₀ count₀ k₀ to count k = (k ≤ e .count) × (to ≡ padded 88 0 (upTo e p k)) × (count ≡ length (upTo e p k))
+Inv-loop p e last to₀ count₀ k₀ to count k = (k ≤ e .count) × (to ≡ padded 88 0 (upTo e p k)) × (count ≡ length (upTo e p k))
 
 abbrev μ-loop : tie.MeasureT-loop
-μ-loop p e to₀ count₀ k₀ to count k = e .count - k
+μ-loop p e last to₀ count₀ k₀ to count k = e .count - k
 
 owner-long : (z : tie.Start Inv-loop μ-loop) → length (z .args .t1 .owner) ≡ 88
 owner-long z = search needs
@@ -31,14 +31,29 @@ owner-long z = search needs
 to-long : (z : tie.Start Inv-loop μ-loop) → length (z .args .t1 .to) ≡ 88
 to-long z = search needs
 
+cast-last : tie.Need-cast-last Inv-loop μ-loop
+cast-last c = search needs
+
 loop-holds : tie.Need-loop-holds Inv-loop μ-loop
 loop-holds c = (search needs, refl, refl)
+
+cast-if1 : tie.Need-cast-if1 Inv-loop μ-loop
+cast-if1 c = search needs
 
 element-copy-out-if1 : tie.Need-element-copy-out-if1 Inv-loop μ-loop
 element-copy-out-if1 c = search needs
 
+cast-to : tie.Need-cast-to Inv-loop μ-loop
+cast-to c = search needs
+
 element-copy-out-to : tie.Need-element-copy-out-to Inv-loop μ-loop
 element-copy-out-to c = search needs
+
+cast-to-2 : tie.Need-cast-to-2 Inv-loop μ-loop
+cast-to-2 c =
+    let l = c .before .before .before .before .loop in
+    let z = c .before .before .before .before .before in
+    omega (arith, l .inv .2, targets-few (z .args .p) (l .k) (z .args .t1 .owner) (take (l .k) (z .args .t1 .to)))
 
 array-write-to : tie.Need-array-write-to Inv-loop μ-loop
 array-write-to c =
@@ -75,6 +90,12 @@ loop-again c =
     (search needs, w .1 ∙ l .inv .1 ∙ ap (padded 88 0) (sym e), w .2 ∙ l .inv .2 ∙ ap (λ (v : List ℕ). length v) (sym e)))
     (c .if1 .came)
 
+cast-t8 : tie.Need-cast-t8 Inv-loop μ-loop
+cast-t8 c =
+    let l = c .before .loop in
+    let z = c .before .before in
+    omega (arith, l .inv .2, targets-few (z .args .p) (l .k) (z .args .t1 .owner) (take (l .k) (z .args .t1 .to)))
+
 returns : tie.Need-returns Inv-loop μ-loop
 returns c =
     let l = c .before .loop in
@@ -88,12 +109,17 @@ targets-of-spec =
     (tie.spec
     Inv-loop
     μ-loop
+    cast-last
     loop-holds
+    cast-if1
     element-copy-out-if1
+    cast-to
     element-copy-out-to
+    cast-to-2
     array-write-to
     add-count
     add-k
     loop-less
     loop-again
+    cast-t8
     returns)
