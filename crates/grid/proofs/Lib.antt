@@ -4,7 +4,6 @@ pub mod HeightLaws
 pub mod ColumnLaws
 pub mod FoldLaws
 pub mod AverageLaws
-pub mod EndsLaws
 pub mod LeadLaws
 pub mod PartLaws
 pub mod SignedLaws
