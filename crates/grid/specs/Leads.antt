@@ -1,4 +1,4 @@
--- Where the sources and the sinks of each node lead, node by node in one array: those of node p stand from at[2 p] up to at[2 p + 1], and from there up to at[2 p + 2].
+-- Where the sources and the sinks of each node lead, node by node in one array: those of node p stand from bounds[2 p] up to bounds[2 p + 1], and from there up to bounds[2 p + 2].
 -- Assumes nothing.
 use Prim.Native.Nat.{ℕ, _+_, _-_, _*_, _≤_, _<_}
 use mathlib.Core.Path.{_≡_}
