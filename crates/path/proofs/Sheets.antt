@@ -6,7 +6,7 @@ use Prim.Native.Nat.{ℕ, zero, suc, _+_, _-_, _*_, _/_, _%_, _≤_, _<_}
 use native.Mathlib.Nat.{mul-zero, mul-suc}
 use native.Mathlib.Numerals.{add-one}
 use native.Mathlib.Omega.{arith}
-use borrow.Author.Tests.{leb-true, ltb-true, ltb-false}
+use borrow.Author.Tests.{leb-true, ltb-true, ltb-false, lt-ltb, le-ltb}
 use lib.Dec.{leb, ltb}
 use lib.ListN.{length, getD, take, drop, length-append, List·getD-append, take-append-drop}
 use lib.Seq.{take-suc, length-take-le, getD-append-add, getD-take}
@@ -25,7 +25,7 @@ use Rattle.path.specs.Drawn.{InRange}
 use Rattle.path.specs.Text as text
 use Rattle.path.specs.Text.{numbersOf, numbersText, segmentText, restText, textOf, Small, Smalls, Led}
 use Rattle.path.specs.Segments.{boxDrawn, curveDrawn, joined, drawnOf}
-use Rattle.path.specs.Strokes.{doubledOf, InReach, IsStroke, boxStroke, curveStroke, sizeOf, strokeAt, nextText}
+use Rattle.path.specs.Strokes.{doubledOf, InReach, IsStroke, boxStroke, curveStroke, sizeOf, strokeAt, strokeOf, nextText}
 use Rattle.path.proofs.Numbers.{number-bound}
 use Rattle.path.proofs.Backs.{rest-append, text-next}
 use Rattle.path.proofs.Readings.{both}
@@ -191,6 +191,38 @@ module _ (s : SheetRecord) (b : length (s .boxes) ≡ 48) (c : length (s .curves
 
     pub stroke-is : (t : Stroke) → t ≡ strokeAt s k → IsStroke (drawnOf s) k t
     stroke-is t e = rw e (record { same = sym by-number; reach = stroke-reach })
+
+    -- segment k by the box and the curve that the code looks up for it
+    module _ (i j : ℕ) (p : i ≡ cond (ltb k (5 * s .count)) (k / 5) 0) (q : j ≡ cond (ltb k (5 * s .count)) 0 ((k - 5 * s .count) / 2)) where
+      box-is : k < 5 * s .count → i ≡ k / 5
+      box-is l = p ∙ rw (lt-ltb k (5 * s .count) l)
+
+      curve-is : 5 * s .count ≤ k → j ≡ (k - 5 * s .count) / 2
+      curve-is l = q ∙ rw (le-ltb k (5 * s .count) l)
+
+      pub box-room : i < 48
+      box-room = go (ltb k (5 * s .count)) refl
+        where
+          go : (t : Bool) → ltb k (5 * s .count) ≡ t → i < 48
+          go true e = let l = ltb-true k (5 * s .count) e in omega (arith, box-is l, o .few)
+          go false e = let u : i ≡ 0 = p ∙ rw e in omega arith
+
+      pub curve-room : j < 88
+      curve-room = go (ltb k (5 * s .count)) refl
+        where
+          go : (t : Bool) → ltb k (5 * s .count) ≡ t → j < 88
+          go true e = let u : j ≡ 0 = q ∙ rw e in omega arith
+          go false e = let l = ltb-false k (5 * s .count) e in omega (arith, curve-is l, o .thin, h)
+
+      pub parts-near : (k < 5 * s .count → boxNear (s .x) (s .y) (getD (s .boxes) i noBox) ≡ true) × (5 * s .count ≤ k → curveNear (s .x) (s .y) (getD (s .curves) j noCurve) ≡ true)
+      parts-near = (λ l. rw (box-is l) (box-near (k / 5) (omega arith)), λ l. rw (curve-is l) (curve-near ((k - 5 * s .count) / 2) (omega arith)))
+
+      pub parts-are : (t : Stroke) → t ≡ strokeOf (s .x) (s .y) (5 * s .count) (getD (s .boxes) i noBox) (getD (s .curves) j noCurve) k → IsStroke (drawnOf s) k t
+      parts-are t e = stroke-is t (e ∙ go (ltb k (5 * s .count)) refl)
+        where
+          go : (b : Bool) → ltb k (5 * s .count) ≡ b → strokeOf (s .x) (s .y) (5 * s .count) (getD (s .boxes) i noBox) (getD (s .curves) j noCurve) k ≡ strokeAt s k
+          go true f = rw (f, box-is (ltb-true k (5 * s .count) f))
+          go false f = rw (f, curve-is (ltb-false k (5 * s .count) f))
 
 -- ---- a sound sheet is in the profile: a move first, no number above the limit
 led-of : (x y : ℕ) (bs : List BoxRecord) (cs : List Curve) → Led (joined (boxDrawn x y) bs ++ joined (curveDrawn x y) cs)

@@ -56,6 +56,10 @@ strokeAt s k =
     cond (ltb k (5 * s .count)) (boxStroke (s .x) (s .y) (getD (s .boxes) (k / 5) noBox) (k % 5))
     (curveStroke (s .x) (s .y) (getD (s .curves) ((k - 5 * s .count) / 2) noCurve) ((k - 5 * s .count) % 2))
 
+-- segment k, of the box b if it is below m, and else of the curve c
+abbrev pub strokeOf : ℕ → ℕ → ℕ → BoxRecord → Curve → ℕ → Stroke
+strokeOf x y m b c k = cond (ltb k m) (boxStroke x y b (k % 5)) (curveStroke x y c ((k - m) % 2))
+
 -- segment k with the space before it, if one stands before it
 abbrev pub nextText : ℕ → Drawn → List ℕ
 nextText zero d = segmentText d

@@ -1,14 +1,15 @@
 // A sheet's segments by number, and its text.
-ghost use mathlib.Core.Bool.{true};
+ghost use mathlib.Core.Bool.{true, cond};
 ghost use mathlib.Core.Path.{_≡_};
-ghost use Prim.Native.Nat.{_+_, _<_, _≤_};
+ghost use Prim.Native.Nat.{_+_, _-_, _/_, _<_, _≤_};
+ghost use lib.Dec.{ltb};
 ghost use lib.ListN.{length};
 ghost use Rattle.grid.specs.Record.{boxNear, curveNear, soundOf};
 ghost use Rattle.path.specs.Drawn.{InRange};
 ghost use Rattle.path.specs.Text.{textOf};
 ghost use Rattle.path.specs.Writer.{IsPut, put};
 ghost use Rattle.path.specs.Segments.{drawnOf};
-ghost use Rattle.path.specs.Strokes.{boxStroke, curveStroke, IsStroke, nextText};
+ghost use Rattle.path.specs.Strokes.{boxStroke, curveStroke, IsStroke, strokeOf, nextText};
 use crate::drawn::Drawn;
 use crate::stroke::Stroke;
 use crate::stroke::drawn_of;
@@ -73,6 +74,31 @@ pub fn stroke_at(s: SheetRecord, k: usize) -> Stroke
     curve_stroke(s.x, s.y, c, j % 2)
 }
 
+// The box of segment k, where the curves begin with segment m; of a curve's segment 0.
+fn box_at(k: usize, m: usize) -> usize
+    ensures { λ r. ⌜ r ≡ cond (ltb k m) (k / 5) 0 ⌝ }
+{
+    if k < m { k / 5 } else { 0 }
+}
+
+// Its curve; of a box's segment 0.
+fn curve_at(k: usize, m: usize) -> usize
+    ensures { λ r. ⌜ r ≡ cond (ltb k m) 0 ((k - m) / 2) ⌝ }
+{
+    if k < m { 0 } else { (k - m) / 2 }
+}
+
+// Segment k, of the box b or of the curve c. (A loop over the segments that handed on the sheet would copy it each time.)
+fn stroke_of(x: u32, y: u32, m: usize, b: BoxRecord, c: Curve, k: usize) -> Stroke
+    requires { ⌜ (k < m → boxNear x y b ≡ true) × (m ≤ k → curveNear x y c ≡ true) ⌝ }
+    ensures { λ r. ⌜ r ≡ strokeOf x y m b c k ⌝ }
+{
+    if k < m {
+        return box_stroke(x, y, b, k % 5);
+    }
+    curve_stroke(x, y, c, (k - m) % 2)
+}
+
 // How many bytes segment k takes, with the space before it, if one stands before it.
 fn next_len(k: usize, d: Drawn) -> usize
     requires { ⌜ InRange d ⌝ }
@@ -91,10 +117,15 @@ pub fn text_len(s: SheetRecord) -> usize
     ensures { λ r. ⌜ r ≡ length (textOf (drawnOf s)) ⌝ }
 {
     let n = size_of(s);
+    let m = 5 * (s.count as usize);
     let mut e = 0usize;
     let mut k = 0usize;
     while k < n {
-        let d = drawn_of(stroke_at(s, k));
+        let i = box_at(k, m);
+        let j = curve_at(k, m);
+        let b = s.boxes[i];
+        let c = s.curves[j];
+        let d = drawn_of(stroke_of(s.x, s.y, m, b, c, k));
         e += next_len(k, d);
         k += 1;
     }
@@ -120,10 +151,15 @@ pub fn put_text(buf: &mut [u8], s: SheetRecord)
     ensures { λ _. ⌜ now (buf .exit) ≡ put (now (buf .entry)) 0 (textOf (drawnOf s)) ⌝ }
 {
     let n = size_of(s);
+    let m = 5 * (s.count as usize);
     let mut e = 0usize;
     let mut k = 0usize;
     while k < n {
-        let d = drawn_of(stroke_at(s, k));
+        let i = box_at(k, m);
+        let j = curve_at(k, m);
+        let b = s.boxes[i];
+        let c = s.curves[j];
+        let d = drawn_of(stroke_of(s.x, s.y, m, b, c, k));
         e = put_next(&mut *buf, e, k, d);
         k += 1;
     }

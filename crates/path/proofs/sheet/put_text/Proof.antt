@@ -9,38 +9,97 @@ use lib.Seq.{take-length}
 use Rattle.path.specs.Text.{textOf}
 use Rattle.path.specs.Segments.{drawnOf}
 use Rattle.path.specs.Writer.{IsPut, put}
-use Rattle.path.specs.Strokes.{nextText}
-use Rattle.path.proofs.Sheets.{text-to, fits-to}
+use Rattle.path.specs.Strokes.{IsStroke, sizeOf, nextText}
+use Rattle.laws.proofs.Lists.{mapped-long}
+use Rattle.path.proofs.Sheets.{Sound, sound-is, drawn-long, box-room, curve-room, parts-near, parts-are, text-to, fits-to}
 use Rattle.path.proofs.Puts.{then, put-long, put-as}
 use borrow.Author.Needs.{needs}
 use Rattle.path.proofs.sheet.put_text.Statement.{statement}
 use Rattle.path.proofs.sheet.put_text.Tie as tie
 
 abbrev Inv-loop : tie.InvT-loop
-Inv-loop buf₀ s n e₀ k₀ buf e k = (k ≤ n) × IsPut buf₀ 0 (textOf (take k (drawnOf s))) buf e
+Inv-loop buf₀ s n m e₀ k₀ buf e k = (k ≤ n) × IsPut buf₀ 0 (textOf (take k (drawnOf s))) buf e
 
 abbrev μ-loop : tie.MeasureT-loop
-μ-loop buf₀ s n e₀ k₀ buf e k = n - k
+μ-loop buf₀ s n m e₀ k₀ buf e k = n - k
+
+long-boxes : (z : tie.Start Inv-loop μ-loop) → length (z .args .t2 .boxes) ≡ 48
+long-boxes z = search (needs, mapped-long)
+
+long-curves : (z : tie.Start Inv-loop μ-loop) → length (z .args .t2 .curves) ≡ 88
+long-curves z = search (needs, mapped-long)
+
+sound : (z : tie.Start Inv-loop μ-loop) → Sound (z .args .t2)
+sound z = sound-is (z .args .t2) (z .pre .0)
+
+-- segment k is there
+below : (c : tie.In-loop Inv-loop μ-loop) → c .before .loop .k < sizeOf (c .before .before .before .before .args .t2)
+below c = let z = c .before .before .before .before in omega (arith, c .before .before .size-of .ensures, drawn-long (z .args .t2) (long-boxes z) (long-curves z) (sound z))
+
+drawing : (c : tie.After-stroke-of Inv-loop μ-loop) →
+    IsStroke (drawnOf (c .before .before .before .before .before .before .before .before .before .args .t2)) (c .before .before .before .before .before .before .loop .k) (c .stroke-of .result)
+drawing c =
+    let w = c .before .before .before in
+    let l = w .before .before in
+    let z = l .before .before .before .before in
+    parts-are (z .args .t2) (long-boxes z) (long-curves z) (sound z) (l .before .loop .k) (below l) (w .before .box-at .result) (w .curve-at .result) (w .before .box-at .ensures) (w .curve-at .ensures) (c .stroke-of .result) (c .stroke-of .ensures)
 
 size-of-requires : tie.Need-size-of-requires Inv-loop μ-loop
 size-of-requires c κs = search needs
+
+cast-m : tie.Need-cast-m Inv-loop μ-loop
+cast-m c = search needs
+
+mul-m : tie.Need-mul-m Inv-loop μ-loop
+mul-m c = search needs
 
 loop-holds : tie.Need-loop-holds Inv-loop μ-loop
 unfolding textOf
 loop-holds c = (search needs, record { bytes = refl; after = refl })
 
-stroke-at-requires : tie.Need-stroke-at-requires Inv-loop μ-loop
-stroke-at-requires c κs = (c .before .before .before .before .pre .0, omega (arith, c .before .before .size-of .ensures))
+box-at-requires : tie.Need-box-at-requires Inv-loop μ-loop
+box-at-requires c κs = search needs
+
+curve-at-requires : tie.Need-curve-at-requires Inv-loop μ-loop
+curve-at-requires c κs = search needs
+
+-- the box and the curve are there
+places : (c : tie.After-curve-at Inv-loop μ-loop) → (c .before .box-at .result < 48) × (c .curve-at .result < 88)
+places c =
+    let l = c .before .before in
+    let z = l .before .before .before .before in (
+      box-room (z .args .t2) (long-boxes z) (long-curves z) (sound z) (l .before .loop .k) (below l) (c .before .box-at .result) (c .curve-at .result) (c .before .box-at .ensures) (c .curve-at .ensures),
+      curve-room (z .args .t2) (long-boxes z) (long-curves z) (sound z) (l .before .loop .k) (below l) (c .before .box-at .result) (c .curve-at .result) (c .before .box-at .ensures) (c .curve-at .ensures),
+    )
+
+mul-b : tie.Need-mul-b Inv-loop μ-loop
+mul-b c = omega (arith, places c .0)
+
+element-copy-out-b : tie.Need-element-copy-out-b Inv-loop μ-loop
+element-copy-out-b c = omega (arith, places c .0)
+
+mul-c : tie.Need-mul-c Inv-loop μ-loop
+mul-c c = omega (arith, places (c .before) .1)
+
+element-copy-out-c : tie.Need-element-copy-out-c Inv-loop μ-loop
+element-copy-out-c c = omega (arith, places (c .before) .1)
+
+stroke-of-requires : tie.Need-stroke-of-requires Inv-loop μ-loop
+stroke-of-requires c κs =
+    let w = c .before .before in
+    let l = w .before .before in
+    let z = l .before .before .before .before in
+    parts-near (z .args .t2) (long-boxes z) (long-curves z) (sound z) (l .before .loop .k) (below l) (w .before .box-at .result) (w .curve-at .result) (w .before .box-at .ensures) (w .curve-at .ensures)
 
 drawn-of-requires : tie.Need-drawn-of-requires Inv-loop μ-loop
-drawn-of-requires c κs = c .stroke-at .ensures .reach
+drawn-of-requires c κs = drawing c .reach
 
 put-next-requires : tie.Need-put-next-requires Inv-loop μ-loop
 put-next-requires c κs =
-    let s = c .before .before .before .before .before .before .before .args .s in
-    let k = c .before .before .before .before .loop .k in
-    let h : k < length (drawnOf s) = omega (arith, c .before .before .before .before .before .size-of .ensures) in
-    omega (arith, c .before .before .before .before .before .before .before .pre .1, fits-to (drawnOf s) k h, ap (λ z. length (nextText k z)) (c .before .drawn-of .ensures ∙ c .before .before .stroke-at .ensures .same), c .before .before .before .before .loop .inv .1 .after, put-long (c .before .before .before .before .loop .inv .1))
+    let s = c .before .before .before .before .before .before .before .before .before .before .before .args .t2 in
+    let k = c .before .before .before .before .before .before .before .before .loop .k in
+    let h : k < length (drawnOf s) = omega (arith, c .before .before .before .before .before .before .before .before .before .size-of .ensures) in
+    omega (arith, c .before .before .before .before .before .before .before .before .before .before .before .pre .1, fits-to (drawnOf s) k h, ap (λ z. length (nextText k z)) (c .before .drawn-of .ensures ∙ drawing (c .before .before) .same), c .before .before .before .before .before .before .before .before .loop .inv .1 .after, put-long (c .before .before .before .before .before .before .before .before .loop .inv .1))
 
 add-k : tie.Need-add-k Inv-loop μ-loop
 add-k c = search needs
@@ -50,17 +109,17 @@ loop-less c = search needs
 
 loop-again : tie.Need-loop-again Inv-loop μ-loop
 loop-again c =
-    let s = c .before .before .before .before .before .before .before .before .before .before .args .s in
-    let k = c .before .before .before .before .before .before .before .loop .k in
-    let h : k < length (drawnOf s) = omega (arith, c .before .before .before .before .before .before .before .before .size-of .ensures) in
-    (search needs, put-as (ap (λ z. textOf (take k (drawnOf s)) ++ nextText k z) (c .before .before .before .before .drawn-of .ensures ∙ c .before .before .before .before .before .stroke-at .ensures .same) ∙ sym (text-to (drawnOf s) k h)) (then (c .before .before .before .before .before .before .before .loop .inv .1) (c .before .before .put-next .ensures)))
+    let s = c .before .before .before .before .before .before .before .before .before .before .before .before .before .before .args .t2 in
+    let k = c .before .before .before .before .before .before .before .before .before .before .before .loop .k in
+    let h : k < length (drawnOf s) = omega (arith, c .before .before .before .before .before .before .before .before .before .before .before .before .size-of .ensures) in
+    (search needs, put-as (ap (λ z. textOf (take k (drawnOf s)) ++ nextText k z) (c .before .before .before .before .drawn-of .ensures ∙ drawing (c .before .before .before .before .before) .same) ∙ sym (text-to (drawnOf s) k h)) (then (c .before .before .before .before .before .before .before .before .before .before .before .loop .inv .1) (c .before .before .put-next .ensures)))
 
 same-length : tie.Need-same-length Inv-loop μ-loop
 same-length c = put-long (c .before .loop .inv .1)
 
 returns : tie.Need-returns Inv-loop μ-loop
 returns c =
-    let s = c .before .before .before .before .args .s in
+    let s = c .before .before .before .before .args .t2 in
     let e : c .before .loop .k ≡ length (drawnOf s) = omega (arith, c .before .before .size-of .ensures) in
     c .before .loop .inv .1 .bytes ∙ ap (λ (z : ℕ). put (c .before .before .before .before .args .buf .now) 0 (textOf (take z (drawnOf s)))) e ∙ ap (λ z. put (c .before .before .before .before .args .buf .now) 0 (textOf z)) (take-length (drawnOf s))
 
@@ -71,8 +130,16 @@ put-text-spec =
     Inv-loop
     μ-loop
     size-of-requires
+    cast-m
+    mul-m
     loop-holds
-    stroke-at-requires
+    box-at-requires
+    curve-at-requires
+    mul-b
+    element-copy-out-b
+    mul-c
+    element-copy-out-c
+    stroke-of-requires
     drawn-of-requires
     put-next-requires
     add-k
