@@ -21,6 +21,10 @@ extern "C" {
 #define MARGALHOSA_TABLE "#0#1#2#3#4#5#6#7#8#9#10#11#12#13#14#15#16#17#18#19#20#21#22#23#24#25#26#27#28#29#30#31"
 #define MARGALHOSA_TABLE_LENGTH (sizeof MARGALHOSA_TABLE - 1)
 
+/* The longest path text of a sheet that margalhosa_sheet has drawn: a buffer of so many bytes is never refused by 16. (Proved; a sheet of the
+   caller's own making may need up to 9,887.) */
+#define MARGALHOSA_TEXT_MOST 9467
+
 /* The kinds of segment. */
 enum { MARGALHOSA_MOVE = 0, MARGALHOSA_LINE = 1, MARGALHOSA_CUBIC = 2, MARGALHOSA_CLOSE = 3 };
 

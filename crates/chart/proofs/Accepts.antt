@@ -18,15 +18,15 @@ use Rattle.chart.specs.declared.reader.Nodes.{Nodes}
 use Rattle.chart.specs.declared.judge.Outside.{Outside}
 use Rattle.chart.specs.declared.judge.Outside.the-variants.{Nothing, Target}
 use Rattle.chart.specs.Chart.{Part, End, Node, Board, Reading, ready, refusal, Got, got, refused, numberOf, endsOf, targets, targetsOf, firstOutside, judgeTargets, judge, judged, bodies, chart}
-use Rattle.chart.specs.Tables.{emptyBoard, itemOf, lineOf, boardOf, tablesOf, withNodes}
+use Rattle.chart.specs.Tables.{emptyBoard, itemOf, lineOf, sourcesFrom, linesFrom, sinksFrom, boardTables, boardOf, tablesOf, withNodes}
 use Rattle.chart.specs.Steps.{nodesOf, outsideOf}
 use Rattle.laws.specs.Lists.{All, capped}
 use Rattle.laws.proofs.Lists.{all-map, all-flat, capped-room, capped-full}
 use Rattle.chart.specs.Accepted.{Fitting, Aimed, Formed, Accepted}
-use Rattle.chart.specs.Read.{closedOf, readingOf, readOf, Joins, Sound, IsRead, answered, judgedOf}
+use Rattle.chart.specs.Read.{numbersOf, outcomeOf, IsRead, closedOf, readingOf, readOf, Joins, Sound, Reads, answered, judgedOf}
 use Rattle.chart.proofs.Readers.{number-some}
 use Rattle.chart.proofs.Gives.{Gives, EndFits, Shaped, Bodies, bodies-give}
-use Rattle.chart.proofs.Held.{LowNode, board-held, ends-count, lines-count, table-back, lines-back, sourcesFrom, linesFrom, sinksFrom, tables-held}
+use Rattle.chart.proofs.Held.{LowNode, tables-are, board-held, ends-count, lines-count, table-back, lines-back, tables-held}
 
 -- ---- the targets
 all-append : {A : Type 0} (P : A → Type 0) (xs ys : List A) → All P (xs ++ ys) → All P xs × All P ys
@@ -130,6 +130,11 @@ module _ (s : List ℕ) (size : length s ≤ 5026) where
   shaped-held : (ps : Board) → All (Shaped s) ps → length ps ≤ 32 → endsOf ps ≤ 64 → boardOf (tablesOf (length ps) ps) ≡ ps
   shaped-held ps h n e = board-held ps (all-map shaped-low ps h) (all-map (λ p f. f .few) ps h) n e
 
+accepted-tables : (s : List ℕ) (ps : Board) → Accepted s ps → tablesOf (length ps) ps ≡ boardTables ps
+accepted-tables s ps a =
+    let h : All (Shaped s) ps = all-map (formed-shaped s (a .size) (length ps)) ps (a .formed) in
+    tables-are ps (all-map (shaped-low s (a .size)) ps h) (all-map (λ p f. f .few) ps h) (a .nodes) (a .ends)
+
 pub accepted-held : (s : List ℕ) (ps : Board) → Accepted s ps → boardOf (tablesOf (length ps) ps) ≡ ps
 accepted-held s ps a = shaped-held s (a .size) ps (all-map (formed-shaped s (a .size) (length ps)) ps (a .formed)) (a .nodes) (a .ends)
 
@@ -166,8 +171,20 @@ limits-of : (s : List ℕ) (g : Reading) → chart s ≡ g → readOf g .answer 
 limits-of s (ready ps) e h = rw (accepted-held s ps (accepted s ps e)) (accepted s ps e)
 limits-of s (refusal a b) e h = let z : _≡_ {A = ℕ} 0 1 = cc in absurd (omega arith)
 
+read-same : (s : List ℕ) (g : Reading) → chart s ≡ g → readOf g ≡ outcomeOf g
+read-same s (ready ps) e = ap (λ (b : Tables). record { answer = Ready; board = b }) (accepted-tables s ps (accepted s ps e))
+read-same s (refusal a b) e = refl
+
 pub is-read : (s : List ℕ) (r : Outcome) → r ≡ readOf (chart s) → IsRead s r
-is-read s r e = rw e (record { reads = reads-back s (chart s) refl; whole = refl; limits = limits-of s (chart s) refl; sound = sound-of s (chart s) refl })
+is-read s r e =
+    let w : r ≡ outcomeOf (chart s) = e ∙ read-same s (chart s) refl in
+    record { whole = w; refused = λ a b q. ap (λ (u : Outcome). numbersOf (u .answer)) (w ∙ ap outcomeOf q); limits = accepted s }
+
+-- what the crates above take from it
+pub reads-of : (s : List ℕ) (r : Outcome) → IsRead s r → Reads s r
+reads-of s r i =
+    let e : r ≡ readOf (chart s) = i .whole ∙ sym (read-same s (chart s) refl) in
+    rw e (record { reads = reads-back s (chart s) refl; whole = refl; limits = limits-of s (chart s) refl; sound = sound-of s (chart s) refl })
 
 -- ---- 12, from what is found
 pub answered-none : (b : Tables) (o : Option ℕ) (r : Outside) → r ≡ outsideOf o → r ≡ Nothing → record { answer = Ready; board = b } ≡ answered b o

@@ -16,7 +16,7 @@ use Rattle.chart.specs.declared.Line.{Line}
 use Rattle.chart.specs.declared.Lines.{Lines}
 use Rattle.chart.specs.declared.Board.{Board as Tables}
 use Rattle.chart.specs.Chart.{Part, End, Node, Board, endsOf}
-use Rattle.chart.specs.Tables.{noItem, noLine, emptyTable, emptyLines, emptyBoard, endOf, partOf, itemsOf, linesOf, nodeOf, boardFrom, boardOf, pushed, pushedLine, itemOf, lineOf, pushAll, pushLines, withNode, withNodes, tablesOf}
+use Rattle.chart.specs.Tables.{noItem, noLine, emptyTable, emptyLines, emptyBoard, endOf, partOf, itemsOf, linesOf, nodeOf, boardFrom, boardOf, itemOf, lineOf, sourcesFrom, linesFrom, sinksFrom, boardTables, pushed, pushedLine, pushAll, pushLines, withNode, withNodes, tablesOf}
 use Rattle.laws.specs.Lists.{All, one, flat, padded, capped}
 use Rattle.laws.proofs.Lists.{length-one, all-map, tabulate-list, owned-flat, padded-set, padded-full, take-padded, capped-room, capped-full, capped-past}
 
@@ -57,15 +57,6 @@ pushed-lines xs x = go (ltb (length xs) 128) refl
         rw (a, b, padded-full 128 noLine xs x l)
 
 -- ---- the records of a board, node after node
-abbrev pub sourcesFrom : ℕ → Board → List Item
-sourcesFrom = flat itemOf (λ (q : Node). q .sources)
-
-abbrev pub linesFrom : ℕ → Board → List Line
-linesFrom = flat lineOf (λ (q : Node). q .lines)
-
-abbrev pub sinksFrom : ℕ → Board → List Item
-sinksFrom = flat itemOf (λ (q : Node). q .sinks)
-
 push-all : (xs : List Item) (p : ℕ) (es : List End) → pushAll (tableOf xs) p es ≡ tableOf (xs ++ map (itemOf p) es)
 push-all xs p [] = rw (append-nil xs)
 push-all xs p (e ∷ es) = rw (pushed-table xs (itemOf p e)) (push-all (xs ++ one (itemOf p e)) p es ∙ ap tableOf (append-assoc xs (one (itemOf p e)) (map (itemOf p) es)))
@@ -145,6 +136,16 @@ lines-count p (q ∷ qs) a =
 
 -- ---- the board of its tables
 module _ (ps : Board) (low : All LowNode ps) (few : All (λ q. length (q .lines) ≤ 4) ps) (nodes : length ps ≤ 32) (ends : endsOf ps ≤ 64) where
+  pub tables-are : tablesOf (length ps) ps ≡ boardTables ps
+  tables-are =
+      let xs = sourcesFrom 0 ps in
+      let ls = linesFrom 0 ps in
+      let ys = sinksFrom 0 ps in
+      let a : capped 64 (length xs) ≡ length xs = capped-room 64 (length xs) (omega (arith, ends-count 0 ps)) in
+      let b : capped 128 (length ls) ≡ length ls = capped-room 128 (length ls) (omega (arith, lines-count 0 ps few)) in
+      let c : capped 64 (length ys) ≡ length ys = capped-room 64 (length ys) (omega (arith, ends-count 0 ps)) in
+      rw (tables-held (length ps) ps, a, b, c)
+
   pub board-held : boardOf (tablesOf (length ps) ps) ≡ ps
   board-held =
       let xs = sourcesFrom 0 ps in

@@ -4,7 +4,7 @@ use Prim.Native.Nat.{ℕ, _+_, _-_, _≤_, _<_}
 use mathlib.Core.Path.{_≡_}
 use mathlib.Core.Option.{Option, none, some}
 use mathlib.Core.Bool.{cond}
-use mathlib.Core.List.{List}
+use mathlib.Core.List.{List, []}
 use lib.Dec.{leb, ltb}
 use lib.ListN.{length}
 use Rattle.chart.specs.declared.Item.{Item}
@@ -15,7 +15,7 @@ use Rattle.chart.specs.declared.Answer.the-variants.{Ready, Refused}
 use Rattle.chart.specs.declared.Outcome.{Outcome}
 use Rattle.chart.specs.declared.reader.Nodes.{Nodes}
 use Rattle.chart.specs.Chart.{Board, Reading, ready, refusal, targetsOf, firstOutside, chart}
-use Rattle.chart.specs.Tables.{emptyBoard, itemsOf, linesOf, boardOf, tablesOf}
+use Rattle.chart.specs.Tables.{emptyBoard, itemsOf, linesOf, boardOf, boardTables, tablesOf}
 use Rattle.laws.specs.Lists.{All}
 use Rattle.chart.specs.Accepted.{Accepted}
 
@@ -28,6 +28,21 @@ abbrev pub numbersOf : Answer → Numbers
 numbersOf Ready = record { first = 0; second = 0 }
 numbersOf (Refused number second) = record { first = number; second = second }
 
+-- the answer of a reading: each field is fixed, past the counts too; a refused chart's tables are those of no node
+abbrev pub outcomeOf : Reading → Outcome
+outcomeOf (ready ps) = record { answer = Ready; board = boardTables ps }
+outcomeOf (refusal number second) = record { answer = Refused number second; board = boardTables [] }
+
+-- r is what the chart s is read as
+pub record IsRead (s : List ℕ) (r : Outcome) : Type 0 where
+  -- every field, past the counts too
+  pub whole : r ≡ outcomeOf (chart s)
+  -- a refusal is document 01's two numbers
+  pub refused : (number second : ℕ) → chart s ≡ refusal number second → numbersOf (r .answer) ≡ record { first = number; second = second }
+  -- an accepted chart is within document 01's limits
+  pub limits : (ps : Board) → chart s ≡ ready ps → Accepted s ps
+
+-- ---- what follows, for the crates above (`reads-of` of proofs/Accepts)
 -- the reading that an answer with a board stands for
 abbrev pub reading : Answer → Board → Reading
 reading Ready ps = ready ps
@@ -36,7 +51,7 @@ reading (Refused number second) ps = refusal number second
 abbrev pub readingOf : Outcome → Reading
 readingOf r = reading (r .answer) (boardOf (r .board))
 
--- the answer of a reading: each field is fixed, and a refused chart's board is empty
+-- the answer of a reading, with the tables as the code makes them
 abbrev pub readOf : Reading → Outcome
 readOf (ready ps) = record { answer = Ready; board = tablesOf (length ps) ps }
 readOf (refusal number second) = record { answer = Refused number second; board = emptyBoard 0 }
@@ -54,8 +69,7 @@ pub record Sound (b : Tables) : Type 0 where
   pub owners : All (λ (x : Line). x .owner < b .n) (linesOf (b .lines))
   pub sinks : All (Joins (b .n)) (itemsOf (b .sinks))
 
--- r is what the chart s is read as
-pub record IsRead (s : List ℕ) (r : Outcome) : Type 0 where
+pub record Reads (s : List ℕ) (r : Outcome) : Type 0 where
   -- the answer and the board are exactly the definition's
   pub reads : readingOf r ≡ chart s
   -- every field, past the counts too

@@ -5,7 +5,7 @@ use mathlib.Core.Bool.{Bool, true, false, cond}
 use mathlib.Core.List.{List, [], _∷_, _++_, map}
 use lib.Dec.{eqb, leb, ltb}
 use lib.ListN.{length, getD, set, take, replicate}
-use Rattle.laws.specs.Lists.{tabulate, ownedBy}
+use Rattle.laws.specs.Lists.{tabulate, ownedBy, flat, padded}
 use Rattle.chart.specs.declared.Item.{Item}
 use Rattle.chart.specs.declared.Table.{Table}
 use Rattle.chart.specs.declared.Line.{Line}
@@ -63,6 +63,36 @@ boardOf t = boardFrom (t .n) (itemsOf (t .sources)) (linesOf (t .lines)) (itemsO
 
 -- ---- the tables of a board
 
+-- a record of p; an accepted chart has fewer than 65,536 bytes
+abbrev pub itemOf : ℕ → End → Item
+itemOf p e = record { owner = p; to = e .to; at = e .text .at % 65536; len = e .text .len }
+
+abbrev pub lineOf : ℕ → Part → Line
+lineOf p e = record { owner = p; at = e .at % 65536; len = e .len }
+
+-- the records node by node
+abbrev pub sourcesFrom : ℕ → Board → List Item
+sourcesFrom = flat itemOf (λ (q : Node). q .sources)
+
+abbrev pub linesFrom : ℕ → Board → List Line
+linesFrom = flat lineOf (λ (q : Node). q .lines)
+
+abbrev pub sinksFrom : ℕ → Board → List Item
+sinksFrom = flat itemOf (λ (q : Node). q .sinks)
+
+-- a table that holds the records, and empty ones past them
+abbrev pub tableFor : List Item → Table
+tableFor xs = record { items = padded 64 noItem xs; count = length xs }
+
+abbrev pub linesFor : List Line → Lines
+linesFor xs = record { items = padded 128 noLine xs; count = length xs }
+
+-- the tables of an accepted board
+abbrev pub boardTables : Board → Tables
+boardTables ps = record { n = length ps; sources = tableFor (sourcesFrom 0 ps); lines = linesFor (linesFrom 0 ps); sinks = tableFor (sinksFrom 0 ps) }
+
+-- ---- the tables as the code makes them, of any board
+
 -- one record more; past the array only the count says so
 abbrev pub pushed : Table → Item → Table
 pushed t x =
@@ -71,13 +101,6 @@ pushed t x =
 abbrev pub pushedLine : Lines → Line → Lines
 pushedLine t x =
     cond (ltb (t .count) 128) (record { items = set (t .items) (t .count) x; count = t .count + 1 }) (record { items = t .items; count = 129 })
-
--- a record of p; an accepted chart has fewer than 65,536 bytes
-abbrev pub itemOf : ℕ → End → Item
-itemOf p e = record { owner = p; to = e .to; at = e .text .at % 65536; len = e .text .len }
-
-abbrev pub lineOf : ℕ → Part → Line
-lineOf p e = record { owner = p; at = e .at % 65536; len = e .len }
 
 -- the records of p pushed one after the other
 abbrev pub pushAll : Table → ℕ → List End → Table
@@ -102,6 +125,6 @@ abbrev pub withNodes : Tables → ℕ → Board → Tables
 withNodes t p [] = t
 withNodes t p (q ∷ qs) = withNodes (withNode t p q) (suc p) qs
 
--- the tables of n nodes
+-- the tables of n nodes; of an accepted board they are `boardTables` (proofs/Accepts)
 unfoldable pub tablesOf : ℕ → Board → Tables
 tablesOf n ps = withNodes (emptyBoard n) 0 ps

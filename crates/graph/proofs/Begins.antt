@@ -18,12 +18,12 @@ use Rattle.chart.specs.declared.Answer.the-variants.{Ready, Refused}
 use Rattle.chart.specs.declared.Outcome.{Outcome as BoardOutcome}
 use Rattle.chart.specs.Chart.{Board, ready as accepted, refusal as refused, chart}
 use Rattle.chart.specs.Chart.{Node as GivenNode}
-use Rattle.chart.specs.Tables.{noLine, linesOf as textsOf, ownedLines, lineOf, boardFrom, boardOf}
+use Rattle.chart.specs.Tables.{noLine, linesOf as textsOf, ownedLines, lineOf, boardFrom, boardOf, linesFrom}
 use Rattle.chart.specs.Tables.{itemsOf as endsOf, owned as ownedEnds, nodeOf as givenNodeOf}
 use Rattle.chart.specs.Accepted.{Formed, Accepted}
-use Rattle.chart.specs.Read.{Joins, Sound as SoundBoard, reading, readOf, IsRead}
-use Rattle.chart.proofs.Held.{linesFrom, tables-held, lines-count}
-use Rattle.chart.proofs.Accepts.{accepted as accepts}
+use Rattle.chart.specs.Read.{Joins, Sound as SoundBoard, reading, readOf, IsRead, Reads}
+use Rattle.chart.proofs.Held.{tables-held, lines-count}
+use Rattle.chart.proofs.Accepts.{accepted as accepts, reads-of}
 use Rattle.graph.specs.declared.Item.{Item}
 use Rattle.graph.specs.declared.Table.{Table}
 use Rattle.graph.specs.declared.Tables.{Tables}
@@ -163,7 +163,10 @@ module _ (b : BoardTables) (h : Held b) (t₀ t₁ : Tables) (begin : Begun b t�
       e-of t r e size names lines xs ys = cc (ap tableOf xs, ap tableOf ys)
 
 -- ---- the answer of `chart::read`
-module _ (s : List ℕ) (o : BoardOutcome) (is : IsRead s o) where
+module _ (s : List ℕ) (o : BoardOutcome) (promised : IsRead s o) where
+  is : Reads s o
+  is = reads-of s o promised
+
   pub read-ready : o .answer ≡ Ready → chart s ≡ accepted (boardOf (o .board))
   read-ready e = sym (is .reads) ∙ ap (λ a. reading a (boardOf (o .board))) e
 

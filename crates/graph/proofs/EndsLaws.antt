@@ -17,7 +17,7 @@ use Rattle.graph.specs.declared.Tables.{Tables}
 use Rattle.graph.specs.declared.Outcome.{Outcome}
 use Rattle.graph.specs.Graph.{Edge}
 use Rattle.graph.specs.Graphed.{Graphed, ready, refusal, graphed}
-use Rattle.graph.specs.Outcome.{sourcesFrom, sinksFrom, outcomeOf, IsGraph}
+use Rattle.graph.specs.Outcome.{sourcesFrom, sinksFrom, outcomeOf, Graphs}
 use Rattle.graph.specs.Shape.{targets, incidentsOf, shapeOf}
 use Rattle.graph.specs.Ends.{endsIn, targetsOf, endsOf, incidentsIn, shapeFrom, Linked}
 use Rattle.graph.specs.Tables.{noItem, edgeOf, owned, itemsOf, nodeOf, linesOf, graphFrom, graphOf, Below, Aimed}
@@ -73,7 +73,7 @@ items-long : (g : Graphed) → (length (outcomeOf g .graph .sources .items) ≡ 
 items-long (ready d) = (length-padded 88 noItem (sourcesFrom 0 (d .graph)), length-padded 88 noItem (sinksFrom 0 (d .graph)))
 items-long (refusal a b) = (refl, refl)
 
-module _ (s : List ℕ) (r : Outcome) (a : IsGraph s r) where
+module _ (s : List ℕ) (r : Outcome) (a : Graphs s r) where
   pub sources-long : length (r .graph .sources .items) ≡ 88
   sources-long = ap (λ (o : Outcome). length (o .graph .sources .items)) (a .whole) ∙ items-long (graphed s) .0
 

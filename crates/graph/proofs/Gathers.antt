@@ -16,6 +16,7 @@ use Rattle.chart.specs.declared.Answer.{Answer}
 use Rattle.chart.specs.declared.Answer.the-variants.{Ready, Refused}
 use Rattle.chart.specs.Chart.{Part, End, Board, endsOf, Reading, ready as accepted, refusal as refused, chart}
 use Rattle.chart.specs.Chart.{Node as GivenNode}
+use Rattle.chart.specs.Read.{numbersOf}
 use Rattle.chart.specs.Accepted.{Aimed as AimedEnd, Formed, Accepted}
 use Rattle.chart.proofs.Accepts.{accepted as accepts}
 use Rattle.graph.specs.declared.Item.{Item}
@@ -26,8 +27,8 @@ use Rattle.graph.specs.Completion.{gainSource, marked, gainSink, complet
 use Rattle.graph.specs.Cutting.{Walk, turned, pointed, firstNode, secondNode, cutGraph, cutting}
 use Rattle.graph.specs.Graphed.{Dag, dagOf, ready, refusal, boxed, drawn, graphed}
 use Rattle.graph.specs.Tables.{itemsOf, Linked}
-use Rattle.graph.specs.Laws.{Aimed, SinkAt, Names, Marked, Unmarked, ends, Named, Laws}
-use Rattle.graph.specs.Outcome.{heldMark, itemOf, sourcesFrom, sinksFrom, textsFrom, nameOf, namesOf, tablesOf, noNodes, outcomeOf, dagIn, graphedOf, Sound, IsGraph, IsAnswer}
+use Rattle.graph.specs.Laws.{Aimed, SinkAt, Names, Marked, Unmarked, ends, Named, Laws, Walks}
+use Rattle.graph.specs.Outcome.{heldMark, itemOf, sourcesFrom, sinksFrom, textsFrom, nameOf, namesOf, tablesOf, noNodes, outcomeOf, dagIn, graphedOf, Sound, IsGraph, Graphs, IsAnswer}
 use Rattle.graph.proofs.Keeps.{pick, cutting-keeps}
 use Rattle.graph.proofs.Completes.{SourceAt, complete-holds}
 use Rattle.graph.proofs.LineLaws.{linesIn, complete-length, Lined, board-lined}
@@ -88,7 +89,7 @@ ends-aimed : (s : List ℕ) (n : ℕ) (es : List End) → All (AimedEnd s n) es 
 ends-aimed s n [] a = tt
 ends-aimed s n (e ∷ es) a = (a .0 .target, ends-aimed s n es (a .1))
 
-given-aimed : (s : List ℕ) (n : ℕ) (ps : Board) → All (Formed s n) ps → Aimed n (givenGraph ps)
+pub given-aimed : (s : List ℕ) (n : ℕ) (ps : Board) → All (Formed s n) ps → Aimed n (givenGraph ps)
 given-aimed s n [] a = tt
 given-aimed s n (p ∷ ps) a = (record { sources = ends-aimed s n (p .sources) (a .0 .sources); sinks = ends-aimed s n (p .sinks) (a .0 .sinks) }, given-aimed s n ps (a .1))
 
@@ -102,10 +103,10 @@ sources-plain : (ps : Board) → All (λ (x : Node). All Plain (x .sources)) (gi
 sources-plain [] = tt
 sources-plain (p ∷ ps) = (ends-plain (p .sources), sources-plain ps)
 
-given-marks : (ps : Board) → Marked (givenGraph ps)
+pub given-marks : (ps : Board) → Marked (givenGraph ps)
 given-marks ps p = unnamed (givenGraph ps) p (nodeAt (givenGraph ps) p .sources) (all-at (λ (x : Node). All Plain (x .sources)) (givenGraph ps) p bare tt (sources-plain ps))
 
-given-ends : (ps : Board) → ends (λ (x : Node). x .sources) (givenGraph ps) + ends (λ (x : Node). x .sinks) (givenGraph ps) ≡ endsOf ps
+pub given-ends : (ps : Board) → ends (λ (x : Node). x .sources) (givenGraph ps) + ends (λ (x : Node). x .sinks) (givenGraph ps) ≡ endsOf ps
 given-ends [] = refl
 given-ends (p ∷ ps) = omega (arith, given-ends ps, length-map (p .sources) unmarked, length-map (p .sinks) unmarked)
 
@@ -186,12 +187,17 @@ module _ (s : List ℕ) (ps : Board) (r : chart s ≡ accepted ps) (d : Dag) (e 
         lines = lines-kept ps (w .graph) (board-lined ps);
         texts = λ i l. cutting-texts (givenGraph ps) g (complete-texts (givenGraph ps)) i (rw long l);
         inserted = lines-new ps (w .graph) (board-lined ps);
-        roots = λ more. rw (← long) (reached-enough g more);
-        starts = λ more. rw (← long) (cutting-enough g more);
       }
 
   pub board-laws : Laws s d
   board-laws = subst (Laws s) (sym (is .0)) gathered
+
+-- the walks of a board: no depth is used up
+pub board-walks : (ps : Board) → Walks ps
+board-walks ps =
+    let g : Graph = complete (givenGraph ps) in
+    let long : length g ≡ length ps = complete-length (givenGraph ps) ∙ length-map ps givenNode in
+    record { roots = λ more. rw (← long) (reached-enough g more); starts = λ more. rw (← long) (cutting-enough g more) }
 
 pub laws-drawn : (s : List ℕ) (d : Dag) → (c : Reading) → chart s ≡ c → drawn c ≡ ready d → Laws s d
 laws-drawn s d (accepted ps) r e = board-laws s ps r d e
@@ -203,13 +209,13 @@ unfolding graphed
 graph-laws s d e = laws-drawn s d (chart s) refl e
 
 -- ---- the tables of the graph
-flat-long : (list : Node → List Edge) (p : ℕ) (g : Graph) → length (flat itemOf list p g) ≡ ends list g
+pub flat-long : (list : Node → List Edge) (p : ℕ) (g : Graph) → length (flat itemOf list p g) ≡ ends list g
 flat-long list p [] = refl
 flat-long list p (x ∷ g) =
     length-append (map (itemOf p) (list x)) (flat itemOf list (suc p) g)
     ∙ rw (length-map (list x) (itemOf p), flat-long list (suc p) g)
 
-all-from : {A : Type 0} (P : A → Type 0) (xs : List A) (d : A) → ((i : ℕ) → P (getD xs i d)) → All P xs
+pub all-from : {A : Type 0} (P : A → Type 0) (xs : List A) (d : A) → ((i : ℕ) → P (getD xs i d)) → All P xs
 all-from P [] d f = tt
 all-from P (x ∷ xs) d f = (f 0, all-from P xs d (λ i. f (suc i)))
 
@@ -236,7 +242,7 @@ all-padded P (suc m) z (x ∷ xs) h a = (a .0, all-padded P m z xs h (a .1))
 abbrev Name : ℕ → Type 0
 Name q = (q ≡ 255 → ⊥) → q < 32
 
-given-name : (ts : List Part) → nameOf (map given ts) ≡ 255
+pub given-name : (ts : List Part) → nameOf (map given ts) ≡ 255
 given-name [] = refl
 given-name (t ∷ ts) = given-name ts
 
@@ -316,5 +322,14 @@ module _ (s : List ℕ) (r : Outcome) (a : IsAnswer (graphed s) r) where
         names = rw y (all-repeat Name 48 255 (λ o. absurd (o refl)));
       }
 
+  pub is-graphs : Graphs s r
+  is-graphs = record { graphs = a .graphs; whole = a .whole; sound = sound-by (r .answer) refl; laws = laws-of }
+
   pub is-graph : IsGraph s r
-  is-graph = record { graphs = a .graphs; whole = a .whole; sound = sound-by (r .answer) refl; laws = laws-of }
+  is-graph =
+      record {
+        whole = a .whole;
+        refused = λ i j e. ap (λ (o : Outcome). numbersOf (o .answer)) (a .whole ∙ ap outcomeOf e);
+        laws = graph-laws s;
+        walks = λ ps e. board-walks ps;
+      }

@@ -21,4 +21,6 @@ pub mod TextLaws
 pub mod DepthLaws
 pub mod Gathers
 pub mod RoomLaws
+pub mod CountLaws
 pub mod EndsLaws
+pub mod Tabled

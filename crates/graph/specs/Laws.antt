@@ -1,4 +1,4 @@
--- What holds of each graph that is drawn.
+-- What holds of each graph that is drawn, and of the walks of every accepted board.
 -- Assumes nothing.
 use Prim.Native.Nat.{ℕ, _+_, _*_, _≤_, _<_}
 use mathlib.Core.Path.{_≡_}
@@ -83,7 +83,9 @@ pub record Laws (s : List ℕ) (d : Dag) : Type 0 where
   pub texts : (k : ℕ) → k < length board → Texts (givenGraph board) (d .graph) k
   -- an inserted node has one line, a given node's number
   pub inserted : (k : ℕ) → length board ≤ k → k < length (d .graph) → Named (length board) (nodeAt (d .graph) k .lines)
-  -- the walks end: no depth is used up, any larger bound gives the same
+
+-- the walks of an accepted board end by themselves: no depth is used up, any larger bound gives the same
+pub record Walks (board : Board) : Type 0 where
   pub roots : (more : ℕ) →
       each (replicate (length board) unseen) (markRoot (length board + more) (complete (givenGraph board))) (length board) ≡ reached (complete (givenGraph board))
   pub starts : (more : ℕ) → each (beginning (complete (givenGraph board))) (start (length board + more)) (length board) ≡ cutting (complete (givenGraph board))

@@ -10,16 +10,16 @@ use Rattle.chart.specs.declared.Board.{Board as BoardTables}
 use Rattle.chart.specs.declared.Line.{Line as LineItem}
 use Rattle.chart.specs.declared.Answer.{Answer}
 use Rattle.chart.specs.declared.Answer.the-variants.{Ready, Refused}
-use Rattle.chart.specs.Chart.{Part, ready as accepted, chart}
+use Rattle.chart.specs.Chart.{Part, Board, ready as accepted, chart}
 use Rattle.chart.specs.Tables.{noLine, emptyLines, lineOf, boardOf, tablesOf as boardTables}
-use Rattle.chart.specs.Read.{Sound as SoundBoard}
+use Rattle.chart.specs.Read.{numbersOf, Sound as SoundBoard}
 use Rattle.graph.specs.declared.Item.{Item}
 use Rattle.graph.specs.declared.Table.{Table}
 use Rattle.graph.specs.declared.Tables.{Tables}
 use Rattle.graph.specs.declared.Outcome.{Outcome}
 use Rattle.graph.specs.Graph.{Line, given, number, Edge, Node, Graph, givenGraph}
 use Rattle.graph.specs.Graphed.{Dag, Graphed, ready, refusal, graphed}
-use Rattle.graph.specs.Laws.{Laws}
+use Rattle.graph.specs.Laws.{Laws, Walks}
 use Rattle.graph.specs.Tables.{noItem, itemsOf, graphOf, Linked, Charted}
 
 -- ---- the tables of a graph
@@ -73,19 +73,31 @@ tablesOf d =
       sinks = tableOf (sinksFrom 0 (d .graph));
     }
 
+-- the answer: each field is fixed, and a refused chart's tables are those of no node
+abbrev pub outcomeOf : Graphed → Outcome
+outcomeOf (ready d) = record { answer = Ready; graph = tablesOf d }
+outcomeOf (refusal a b) = record { answer = Refused a b; graph = tablesOf (record { graph = []; cuts = 0 }) }
+
+-- ---- the promise
+-- r is the graph of the chart s
+pub record IsGraph (s : List ℕ) (r : Outcome) : Type 0 where
+  -- every field, past the counts too; a refused chart's tables are the empty ones
+  pub whole : r ≡ outcomeOf (graphed s)
+  -- a refusal is document 01's two numbers
+  pub refused : (number second : ℕ) → graphed s ≡ refusal number second → numbersOf (r .answer) ≡ record { first = number; second = second }
+  -- the laws of the graph that is drawn
+  pub laws : (d : Dag) → graphed s ≡ ready d → Laws s d
+  -- the walks of every accepted board, also of one that 13 refuses
+  pub walks : (board : Board) → chart s ≡ accepted board → Walks board
+
+-- ---- what an answer stands for
+
 abbrev pub emptyTable : Table
 emptyTable = record { items = replicate 88 noItem; count = 0 }
 
--- the empty tables
+-- the empty tables, as the code makes them
 abbrev pub noNodes : Tables
 noNodes = record { n = 0; cuts = 0; names = replicate 48 255; lines = emptyLines; sources = emptyTable; sinks = emptyTable }
-
--- the answer: each field is fixed, and a refused chart's tables are the empty ones
-abbrev pub outcomeOf : Graphed → Outcome
-outcomeOf (ready d) = record { answer = Ready; graph = tablesOf d }
-outcomeOf (refusal a b) = record { answer = Refused a b; graph = noNodes }
-
--- ---- what an answer stands for
 
 abbrev pub dagIn : Tables → Dag
 dagIn t = record { graph = graphOf t; cuts = t .cuts }
@@ -106,11 +118,10 @@ pub record Sound (t : Tables) : Type 0 where
   pub sink-marks : All (λ (x : Item). x .mark ≡ 0) (itemsOf (t .sinks))
   pub names : All (λ q. (q ≡ 255 → ⊥) → q < 32) (t .names)
 
--- r is the graph of the chart s
-pub record IsGraph (s : List ℕ) (r : Outcome) : Type 0 where
+-- what the crates above take of the graph of the chart s: it follows from `IsGraph` (`graphs-of` of proofs/Tabled)
+pub record Graphs (s : List ℕ) (r : Outcome) : Type 0 where
   -- the answer and the graph are exactly the definition's
   pub graphs : graphedOf r ≡ graphed s
-  -- every field, past the counts too; a refused chart's tables are the empty ones
   pub whole : r ≡ outcomeOf (graphed s)
   -- the tables, whether accepted or not
   pub sound : Sound (r .graph)

@@ -12,7 +12,7 @@ use Rattle.grid.specs.Columns.{columns}
 use Rattle.grid.specs.Placed.{Placed, FirstColumns}
 use Rattle.grid.specs.Heights.{heights}
 use Rattle.grid.specs.RenderGrid.{sheetOf, sheet, widths, tallnesses}
-use Rattle.grid.specs.SheetTheorem.{SheetTheorem, Small}
+use Rattle.grid.proofs.SheetTheorem.{SheetTheorem, Small}
 use Rattle.grid.proofs.ListLaws.{largest-below}
 use Rattle.grid.proofs.HeightLaws.{heights-long, heights-below}
 use Rattle.grid.proofs.ColumnLaws.{first-placed, columns-placed}

@@ -41,13 +41,13 @@ module _ (g : List (List ℕ)) (f : Full g) (y x k : ℕ) (in-row : y < 48) (in-
       }
 
   put-same : cellAt (put g y x k) y x ≡ k
-  put-same = ap (λ (l : List ℕ). getD l x 0) put-own ∙ getD-set-same (getD g y []) x k 0 (omega (arith, f .wide y in-row))
+  put-same = ap (λ (l : List ℕ). getD l x 255) put-own ∙ getD-set-same (getD g y []) x k 255 (omega (arith, f .wide y in-row))
 
   put-other : (r c : ℕ) → (r ≡ y → c ≡ x → ⊥) → cellAt (put g y x k) r c ≡ cellAt g r c
   put-other r c n =
       ⊎-elim
-      (λ e. subst (λ (i : ℕ). cellAt (put g y x k) i c ≡ cellAt g i c) (sym e) (ap (λ (l : List ℕ). getD l c 0) put-own ∙ getD-set-other (getD g y []) x c k 0 (n e)))
-      (λ m. ap (λ (l : List ℕ). getD l c 0) (put-row r m)) (same? r y)
+      (λ e. subst (λ (i : ℕ). cellAt (put g y x k) i c ≡ cellAt g i c) (sym e) (ap (λ (l : List ℕ). getD l c 255) put-own ∙ getD-set-other (getD g y []) x c k 255 (n e)))
+      (λ m. ap (λ (l : List ℕ). getD l c 255) (put-row r m)) (same? r y)
 
 -- the cell at row r and column c shows v, when the boxes below m are placed
 abbrev Shows : List BoxRecord → ℕ → ℕ → ℕ → ℕ → Type 0
@@ -94,7 +94,7 @@ module _ (s : SheetRecord) (a : Apart s) where
     shows : (m : ℕ) → m ≤ s .count → Shows (s .boxes) m r c (cellAt (grid m) r c)
     unfolding each
     shows zero h =
-        inl (ap (λ (l : List ℕ). getD l c 0) (getD-replicate 48 r (replicate 144 255) [] in-row) ∙ getD-replicate {A = ℕ} 144 c 255 0 in-column, λ k l q. not-below k l)
+        inl (ap (λ (l : List ℕ). getD l c 255) (getD-replicate 48 r (replicate 144 255) [] in-row) ∙ getD-replicate {A = ℕ} 144 c 255 255 in-column, λ k l q. not-below k l)
       where
         not-below : (k : ℕ) → k < 0 → ⊥
         not-below k l = omega arith

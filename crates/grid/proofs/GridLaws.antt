@@ -5,20 +5,17 @@ use native.Mathlib.Omega.{arith}
 use native.Mathlib.Nat.{le-of-suc-le-suc, not-suc-le-zero, eq-or-lt-of-le, zero-add}
 use mathlib.Core.Path.{_≡_, refl, ap, sym, _∙_, subst}
 use mathlib.Core.Logic.{_⊎_, inl, inr}
-use mathlib.Core.Option.{Option, none, some, Option·some-injective, Option·none-ne-some}
-use mathlib.Core.Bool.{Bool, true, false, cond, _&&_}
 use mathlib.Core.List.{List, [], _∷_}
-use lib.Dec.{eqb}
 use lib.ListN.{length, getD, length-map}
-use borrow.Author.Tests.{eq-eqb, eqb-true}
+use borrow.Author.Tests.{eq-eqb}
 use Rattle.laws.proofs.Tests.{less?}
 use Rattle.graph.specs.Graph.{Graph, nodeAt, bare}
 use Rattle.grid.specs.Lists.{largest}
 use Rattle.grid.specs.Columns.{at}
 use Rattle.grid.specs.Placed.{Placed}
 use Rattle.grid.specs.RenderNode.{drawn, boxWidth, boxHeight}
-use Rattle.grid.specs.RenderGrid.{extent, begins, reach, holds, Box, Sheet, boxAt, boxOf, cellsOf, widths, tallnesses, sheetOf}
-use Rattle.grid.specs.SheetTheorem.{noBox, box, cell, Names, Across, Down, SheetTheorem}
+use Rattle.grid.specs.RenderGrid.{extent, begins, reach, Box, Sheet, boxAt, boxOf, widths, tallnesses, sheetOf}
+use Rattle.grid.proofs.SheetTheorem.{noBox, box, Names, Across, Down, SheetTheorem}
 use Rattle.grid.proofs.ListLaws.{at-largest, at-map}
 use Rattle.laws.proofs.Lists.{length-tabulate, getD-tabulate}
 
@@ -60,48 +57,6 @@ module _ (gap : ℕ) (places sizes : List ℕ) where
     box-before i j h l =
         omega (arith, begins-past (at places i) (at places j) l, extent-ge places sizes i (at places i) (omega arith) (omega arith) refl)
 
--- a box that has row r and column c, where the lists are those from box k on: box m
-record Found (k : ℕ) (rows cols : List ℕ) (r c m : ℕ) : Type 0 where
-  index : ℕ
-  number : m ≡ k + index
-  inside : (index < length rows) × (index < length cols)
-  row : at rows index ≡ r
-  column : at cols index ≡ c
-
-module _ (r c : ℕ) where
-  found-first : (k y x m : ℕ) (rows cols : List ℕ) → y ≡ r → x ≡ c → some k ≡ some m → Found k (y ∷ rows) (x ∷ cols) r c m
-  found-first k y x m rows cols e f q =
-      let i : k ≡ m = Option·some-injective k m q in
-      record { index = 0; number = omega arith; inside = (omega arith, omega arith); row = e; column = f }
-
-  found-later : (k y x m : ℕ) (rows cols : List ℕ) → Found (suc k) rows cols r c m → Found k (y ∷ rows) (x ∷ cols) r c m
-  found-later k y x m rows cols f =
-      record { index = suc (f .index); number = omega (arith, f .number); inside = (omega (arith, f .inside .0), omega (arith, f .inside .1)); row = f .row; column = f .column }
-
-  found-case : (k y x m : ℕ) (rows cols : List ℕ) → (holds (suc k) rows cols r c ≡ some m → Found (suc k) rows cols r c m) →
-      (t u : Bool) → eqb y r ≡ t → eqb x c ≡ u → cond (t && u) (some k) (holds (suc k) rows cols r c) ≡ some m → Found k (y ∷ rows) (x ∷ cols) r c m
-  found-case k y x m rows cols rest true true e f q = found-first k y x m rows cols (eqb-true y r e) (eqb-true x c f) q
-  found-case k y x m rows cols rest true false e f q = found-later k y x m rows cols (rest q)
-  found-case k y x m rows cols rest false u e f q = found-later k y x m rows cols (rest q)
-
-  holds-found : (k m : ℕ) (rows cols : List ℕ) → holds k rows cols r c ≡ some m → Found k rows cols r c m
-  holds-found k m [] cols q = absurd (Option·none-ne-some m q)
-  holds-found k m (y ∷ rows) [] q = absurd (Option·none-ne-some m q)
-  holds-found k m (y ∷ rows) (x ∷ cols) q = found-case k y x m rows cols (holds-found (suc k) m rows cols) (eqb y r) (eqb x c) refl refl q
-
-  holds-case : (k y x : ℕ) (rows cols : List ℕ) → (m : ℕ) × (holds (suc k) rows cols r c ≡ some m) → (t : Bool) →
-      (m : ℕ) × (cond t (some k) (holds (suc k) rows cols r c) ≡ some m)
-  holds-case k y x rows cols rest true = (k, refl)
-  holds-case k y x rows cols rest false = rest
-
-  -- a cell is not empty where a box names it
-  holds-some : (k : ℕ) (rows cols : List ℕ) (i : ℕ) → i < length rows → i < length cols → at rows i ≡ r → at cols i ≡ c → (m : ℕ) × (holds k rows cols r c ≡ some m)
-  holds-some k [] cols i h l e f = absurd (not-suc-le-zero h)
-  holds-some k (y ∷ rows) [] i h l e f = absurd (not-suc-le-zero l)
-  holds-some k (y ∷ rows) (x ∷ cols) zero h l e f = (k, rw (eq-eqb y r e, eq-eqb x c f))
-  holds-some k (y ∷ rows) (x ∷ cols) (suc i) h l e f =
-      holds-case k y x rows cols (holds-some (suc k) rows cols i (le-of-suc-le-suc h) (le-of-suc-le-suc l) e f) (eqb y r && eqb x c)
-
 -- the graph with its columns and rows
 module _ (n cuts b : ℕ) (g : Graph) (cols rows : List ℕ) (tall : length rows ≡ length g) (count : length g ≡ n + 2 * cuts) (p : Placed (length g) b rows cols) where
   abbrev s : Sheet
@@ -130,31 +85,11 @@ module _ (n cuts b : ℕ) (g : Graph) (cols rows : List ℕ) (tall : length rows
   tall-long : length (tallnesses g) ≡ length g
   tall-long = length-map g boxHeight
 
-  -- the cell at column c and row r
-  cell-is : (c r : ℕ) → c < suc (largest cols) → r < suc (largest rows) → cell s c r ≡ holds 0 rows cols r c
-  unfolding sheetOf
-  cell-is c r hc hr =
-      ap (λ (l : List (Option ℕ)). getD l c none) (getD-tabulate (cellsOf cols rows) 0 (suc (largest rows)) r [] hr)
-      ∙ getD-tabulate (λ d. holds 0 rows cols (0 + r) d) 0 (suc (largest cols)) c none hc
-      ∙ ap (λ (q : ℕ). holds 0 rows cols q (0 + c)) (zero-add r) ∙ ap (λ (q : ℕ). holds 0 rows cols r q) (zero-add c)
-
   column-in : (k : ℕ) → k < length g → at cols k < suc (largest cols)
   column-in k h = omega (arith, at-largest cols k (omega (arith, p .long)))
 
   row-in : (k : ℕ) → k < length g → at rows k < suc (largest rows)
   row-in k h = omega (arith, at-largest rows k (omega arith))
-
-  held : (k c r : ℕ) → holds 0 rows cols r c ≡ some k → (k < length g) × (at cols k ≡ c) × (at rows k ≡ r)
-  held k c r e =
-      let f = holds-found r c 0 k rows cols e in
-      let i : k ≡ f .index = omega (arith, f .number) in
-      (omega (arith, f .inside .0), rw i (f .column), rw i (f .row))
-
-  holder : (k : ℕ) → k < length g → holds 0 rows cols (at rows k) (at cols k) ≡ some k
-  holder k h =
-      let m = holds-some (at rows k) (at cols k) 0 rows cols k (omega arith) (omega (arith, p .long)) refl refl in
-      let f = held (m .0) (at cols k) (at rows k) (m .1) in
-      m .1 ∙ ap {B = Option ℕ} some (p .apart (m .0) k (f .0) h (f .2) (f .1))
 
   inside : (k : ℕ) → k < length (s .boxes) → k < length g
   inside k h = rw size at h
@@ -182,17 +117,9 @@ module _ (n cuts b : ℕ) (g : Graph) (cols rows : List ℕ) (tall : length rows
     of-node : box s k ≡ boxAt (nodeAt g k) (box s k .column) (box s k .row) (box s k .x) (box s k .y)
     of-node = subst (λ (z : Box). z ≡ boxAt (nodeAt g k) (z .column) (z .row) (z .x) (z .y)) (sym (is k h)) refl
 
-    in-cell : (box s k .column < s .columns) × (box s k .row < s .rows) × (cell s (box s k .column) (box s k .row) ≡ some k)
+    in-cell : (box s k .column < s .columns) × (box s k .row < s .rows)
     unfolding sheetOf
-    in-cell = (
-      omega (arith, column-is, column-in k h),
-      omega (arith, row-is, row-in k h),
-      ap (λ (c : ℕ). cell s c (box s k .row)) column-is ∙ ap (cell s (at cols k)) row-is
-          ∙ cell-is (at cols k) (at rows k) (column-in k h) (row-in k h) ∙ holder k h,
-    )
-
-    names : (c r : ℕ) → at cols k ≡ c → at rows k ≡ r → Names s k c r
-    names c r e f = (column-is ∙ e, row-is ∙ f)
+    in-cell = (omega (arith, column-is, column-in k h), omega (arith, row-is, row-in k h))
 
     named : (c r : ℕ) → Names s k c r → (at cols k ≡ c) × (at rows k ≡ r)
     named c r z = (sym column-is ∙ z .0, sym row-is ∙ z .1)
@@ -210,12 +137,6 @@ module _ (n cuts b : ℕ) (g : Graph) (cols rows : List ℕ) (tall : length rows
     bottom-of : box s k .y + box s k .height + 128 ≤ s .height
     unfolding sheetOf
     bottom-of = omega (arith, y-is, h-is, box-within 2048 rows (tallnesses g) (length g) tall tall-long k h)
-
-  shown : (k c r : ℕ) → c < s .columns → r < s .rows → cell s c r ≡ some k → (k < length (s .boxes)) × Names s k c r
-  unfolding sheetOf
-  shown k c r hc hr e =
-      let f = held k c r (sym (cell-is c r hc hr) ∙ e) in
-      (rw size (f .0), names k (f .0) c r (f .1) (f .2))
 
   -- two boxes in different columns, or in different rows
   across : (i j : ℕ) → i < length g → j < length g → at cols i < at cols j → box s i .x + box s i .width + 1024 ≤ box s j .x
@@ -239,24 +160,6 @@ module _ (n cuts b : ℕ) (g : Graph) (cols rows : List ℕ) (tall : length rows
       go (inr a) (inr d) (inr e) (inl f) = inr (inr (down j i hj hi f))
       go (inr a) (inr d) (inr e) (inr f) = absurd (o (p .apart i j hi hj (omega arith) (omega arith)))
 
-  hollow : (c r : ℕ) → c < s .columns → r < s .rows → cell s c r ≡ none → (k : ℕ) → k < length (s .boxes) → Names s k c r → ⊥
-  hollow c r hc hr e k h z =
-      let q = in-cell k (inside k h) in
-      Option·none-ne-some k (sym e ∙ ap (λ (d : ℕ). cell s d r) (sym (z .0)) ∙ ap (cell s (box s k .column)) (sym (z .1)) ∙ q .2)
-
-  unheld : (c r : ℕ) → c < s .columns → r < s .rows → ((k : ℕ) → k < length (s .boxes) → Names s k c r → ⊥) → cell s c r ≡ none
-  unheld c r hc hr f = go (cell s c r) refl
-    where
-      go : (o : Option ℕ) → cell s c r ≡ o → cell s c r ≡ none
-      go none e = e
-      go (some k) e = let q = shown k c r hc hr e in absurd (f k (q .0) (q .1))
-
-  row-long : (r : ℕ) → r < s .rows → length (getD (s .cells) r []) ≡ s .columns
-  unfolding sheetOf
-  row-long r h =
-      ap (λ (l : List (Option ℕ)). length l) (getD-tabulate (cellsOf cols rows) 0 (suc (largest rows)) r [] h)
-      ∙ length-tabulate (λ d. holds 0 rows cols (0 + r) d) 0 (suc (largest cols))
-
   pub box-theorem : SheetTheorem n cuts g (sheetOf g cuts cols rows)
   unfolding sheetOf
   box-theorem =
@@ -266,15 +169,11 @@ module _ (n cuts b : ℕ) (g : Graph) (cols rows : List ℕ) (tall : length rows
         given = omega (arith, size, count);
         boxes = size ∙ count;
         reports = refl;
-        rows = length-tabulate (cellsOf cols rows) 0 (suc (largest rows));
-        columns = row-long;
         has-cell = λ k h. in-cell k (inside k h);
-        no-other = shown;
         no-two = λ i j c r hi hj y z.
             let a = named i (inside i hi) c r y in
             let d = named j (inside j hj) c r z in
             p .apart i j (inside i hi) (inside j hj) (a .1 ∙ sym (d .1)) (a .0 ∙ sym (d .0));
-        empty = λ c r hc hr. (hollow c r hc hr, unheld c r hc hr);
         distance = λ i j hi hj o. far i j (inside i hi) (inside j hj) o;
         left = λ k h. left-of k (inside k h);
         top = λ k h. top-of k (inside k h);

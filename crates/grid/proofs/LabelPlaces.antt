@@ -24,7 +24,7 @@ use Rattle.graph.specs.Graph.{Line, given, number, Edge, Node, Graph, noText, b
 use Rattle.graph.specs.Graphed.{Dag, Graphed, ready as cut, refusal as uncut, graphed}
 use Rattle.graph.specs.Shape.{shapeOf}
 use Rattle.graph.specs.Tables.{itemsOf, linesOf, graphOf}
-use Rattle.graph.specs.Outcome.{dagIn, IsGraph}
+use Rattle.graph.specs.Outcome.{dagIn, Graphs}
 use Rattle.graph.specs.Laws.{textsAt, Begins, Texts, Named, Laws}
 use Rattle.graph.proofs.AimLaws.{all-in}
 use Rattle.graph.proofs.Gathers.{graph-laws}
@@ -43,7 +43,8 @@ use Rattle.grid.specs.RenderGrid.{Sheet, textMoved, boxOf, sheetOf, shee
 use Rattle.grid.specs.Curves.{noOutputs, boxRecord, recordOf}
 use Rattle.grid.specs.Rendered.{Seated}
 use Rattle.grid.specs.Sheeted.{Sheeted, ready, refusal, within, drawn as drawnAt, sheetOfDag, sheeted, outcomeOf}
-use Rattle.grid.specs.BoxTheorem.{BoxTheorem, IsSheet}
+use Rattle.grid.specs.BoxTheorem.{BoxTheorem}
+use Rattle.grid.proofs.Sheets.{Made}
 use Rattle.grid.specs.Labels.{placeOf, labelAt, labelOf, labelFrom, Sited}
 use Rattle.grid.specs.Labelled.{ready as labels, refusal as unlabelled, labelIn, labelOn, labelled, labelOutcomeOf}
 use Rattle.grid.proofs.LabelLaws.{label-sheet}
@@ -66,10 +67,10 @@ fits s x y d c false b e f h =
     let g : outcomeOf x y (sheeted s x y) .answer ≡ Refused 14 0 = rw (c, e) in
     let z : _≡_ {A = ℕ} 0 1 = cc in absurd (omega arith)
 
-pub sitting : (s : List ℕ) (w : Graphing) → IsGraph s w → Seated (w .graph)
+pub sitting : (s : List ℕ) (w : Graphing) → Graphs s w → Seated (w .graph)
 sitting s w a = record { linked = a .sound .linked; line-room = a .sound .line-room }
 
-module _ (s : List ℕ) (x y : ℕ) (o : Outcome) (q : IsSheet s x y o) (w : Graphing) (a : IsGraph s w) where
+module _ (s : List ℕ) (x y : ℕ) (o : Outcome) (q : Made s x y o) (w : Graphing) (a : Graphs s w) where
   module _ (answered : o .answer ≡ Ready) where
     abbrev t : Tables
     t = w .graph
@@ -164,7 +165,7 @@ module _ (s : List ℕ) (x y : ℕ) (o : Outcome) (q : IsSheet s x y o) (w : Gra
           sym (ap labelOutcomeOf (labelled-is k i ∙ g))
 
 -- a refused sheet has no label
-pub place-refused : (s : List ℕ) (x y : ℕ) (o : Outcome) → IsSheet s x y o → (k i n m : ℕ) → o .answer ≡ Refused n m → labelOutcomeOf (unlabelled n m) ≡ labelOutcomeOf (labelled s x y k i)
+pub place-refused : (s : List ℕ) (x y : ℕ) (o : Outcome) → Made s x y o → (k i n m : ℕ) → o .answer ≡ Refused n m → labelOutcomeOf (unlabelled n m) ≡ labelOutcomeOf (labelled s x y k i)
 unfolding labelled
 place-refused s x y o q k i n m e = go (sheeted s x y) (sym (ap (λ (u : Outcome). u .answer) (q .whole)) ∙ e)
   where

@@ -12,11 +12,13 @@ pub mod WalkSteps
 pub mod LowerLaws
 pub mod MoveLaws
 pub mod RoundLaws
+pub mod SheetTheorem
 pub mod GridLaws
 pub mod Totals
 pub mod Arrays
 pub mod NodeLaws
 pub mod Noted
+pub mod PointLaws
 pub mod CurveLaws
 pub mod LaidLaws
 pub mod RecordLaws
@@ -26,4 +28,6 @@ pub mod CellLaws
 pub mod TextLaws
 pub mod BoxTheorem
 pub mod Sheets
+pub mod SoundLaws
+pub mod GivenLaws
 pub mod LabelPlaces

@@ -60,17 +60,17 @@ module _ (dx dy : ℕ) where
 
 -- ---- curves
 
-if-short : (o : Option Output) (i : Input) → length (curveIf o i) ≤ 1
+pub if-short : (o : Option Output) (i : Input) → length (curveIf o i) ≤ 1
 if-short none i = omega arith
 if-short (some o) i = omega arith
 
-to-short : (bs : List Box) (k : ℕ) (is : List Input) → length (curvesTo bs k is) ≤ length is
+pub to-short : (bs : List Box) (k : ℕ) (is : List Input) → length (curvesTo bs k is) ≤ length is
 to-short bs k [] = omega arith
 to-short bs k (i ∷ is) =
     let o = outputFor (i .mark) (getD bs (i .from) noOutputs .outputs) k in
     omega (arith, length-append (curveIf o i) (curvesTo bs k is), if-short o i, to-short bs k is)
 
-inputs-long : (gap x y : ℕ) (es : List Edge) → length (inputsAt gap x y es) ≡ length es
+pub inputs-long : (gap x y : ℕ) (es : List Edge) → length (inputsAt gap x y es) ≡ length es
 inputs-long gap x y [] = refl
 inputs-long gap x y (e ∷ es) = ap suc (inputs-long gap (x + endWidth e + gap) y es)
 

@@ -1,4 +1,4 @@
--- From the definition's sheet to the record that is handed out: the box theorem, and what `sheet` promises.
+-- From the definition's sheet to the record that is handed out: the box theorem of what `sheet` makes.
 -- Assumes nothing.
 use Prim.Native.Nat.{ℕ, _+_, _-_, _*_, _≤_, _<_}
 use native.Mathlib.Omega.{arith}
@@ -22,7 +22,7 @@ use Rattle.graph.specs.declared.Ends.{Ends}
 use Rattle.graph.specs.Ends.{endsIn, shapeFrom, Linked}
 use Rattle.graph.specs.Graphed.{Dag, Graphed, ready as cut, refusal as refused, graphed}
 use Rattle.graph.specs.Tables.{itemsOf, linesOf, graphOf}
-use Rattle.graph.specs.Outcome.{dagIn, IsGraph}
+use Rattle.graph.specs.Outcome.{dagIn, Graphs}
 use Rattle.graph.specs.Laws.{Aimed, Laws}
 use Rattle.graph.proofs.Gathers.{graph-laws}
 use Rattle.graph.proofs.Cuts.{length-graph}
@@ -47,9 +47,9 @@ use Rattle.grid.specs.RenderGrid.{Box, Sheet, sheetOf, sheet}
 use Rattle.grid.specs.Record.{noBox, noSheet}
 use Rattle.grid.specs.Curves.{boxRecord, recordOf}
 use Rattle.grid.specs.Cells.{cellAt, cellsIn, Named, Apart}
-use Rattle.grid.specs.SheetTheorem.{SheetTheorem, noBox as noBoxed, box as boxIn}
+use Rattle.grid.proofs.SheetTheorem.{SheetTheorem, noBox as noBoxed, box as boxIn}
 use Rattle.grid.specs.Sheeted.{ready, refusal, within, fitted, sheetOfDag, sheeted, outcomeOf, fittedOf, arrangedOf}
-use Rattle.grid.specs.BoxTheorem.{box, cell, Names, Across, Down, BoxTheorem, IsSheet}
+use Rattle.grid.specs.BoxTheorem.{box, cell, Names, Across, Down, BoxTheorem}
 use Rattle.grid.proofs.HeightLaws.{heights-long}
 use Rattle.grid.proofs.ColumnLaws.{first-placed, columns-placed}
 use Rattle.grid.proofs.RoundLaws.{heights-take, heights-inside, columns-take}
@@ -160,7 +160,7 @@ module _ (n cuts : ℕ) (g : Graph) (sh : Sheet) (t : SheetTheorem n cuts g sh) 
       }
 
 -- ---- what the lower crates promise
-module _ (s : List ℕ) (w : Graphing) (a : IsGraph s w) (first : List ℕ) (f : first ≡ columnsIn (w .graph .n) (endsIn (w .graph .sources)) (endsIn (w .graph .sinks))) where
+module _ (s : List ℕ) (w : Graphing) (a : Graphs s w) (first : List ℕ) (f : first ≡ columnsIn (w .graph .n) (endsIn (w .graph .sources)) (endsIn (w .graph .sinks))) where
   abbrev t : Tables
   t = w .graph
 
@@ -279,15 +279,19 @@ module _ (w : Graphing) (first : List ℕ) (x y : ℕ) (answered : w .answer ≡
   pub arranged-past : (within x (s .width) && within y (s .height)) ≡ false → record { answer = Refused 14 0; sheet = noSheet } ≡ arrangedOf w first x y
   arranged-past b = let f : record { answer = Refused 14 0; sheet = noSheet } ≡ fittedOf s = rw (at-x, at-y, b) in f ∙ arranged-is
 
--- ---- what `sheet` promises
-module _ (s : List ℕ) (x y : ℕ) (w : Graphing) (a : IsGraph s w) where
+-- ---- what `sheet` makes: every field is the definition's, and the box theorem holds of it
+pub record Made (s : List ℕ) (x y : ℕ) (r : Outcome) : Type 0 where
+  pub whole : r ≡ outcomeOf x y (sheeted s x y)
+  pub boxes : (d : Dag) → graphed s ≡ cut d → r .answer ≡ Ready → BoxTheorem (getD s 1 0) (d .cuts) (d .graph) (r .sheet)
+
+module _ (s : List ℕ) (x y : ℕ) (w : Graphing) (a : Graphs s w) where
   none-cut : {A : Type 0} (number second : ℕ) (d : Dag) → refused number second ≡ cut d → A
   none-cut number second d e = let z : _≡_ {A = ℕ} 0 1 = cc in absurd (omega arith)
 
   same-dag : (d e : Dag) → cut d ≡ cut e → d ≡ e
   same-dag d e q = cc
 
-  sheet-refused : (number second : ℕ) → w .answer ≡ Refused number second → (r : Outcome) → r ≡ outcomeOf 0 0 (refusal number second) → IsSheet s x y r
+  sheet-refused : (number second : ℕ) → w .answer ≡ Refused number second → (r : Outcome) → r ≡ outcomeOf 0 0 (refusal number second) → Made s x y r
   unfolding sheeted
   sheet-refused number second q r e =
       let g : graphed s ≡ refused number second = sym (a .graphs) ∙ rw q in
@@ -322,7 +326,7 @@ module _ (s : List ℕ) (x y : ℕ) (w : Graphing) (a : IsGraph s w) where
         boxed (getD s 1 0) (w .graph .cuts) g drawing theorem (omega (arith, theorem .one-each, laws .boxes))
         (columns-few g first columned-first (w .graph .cuts) (laws .boxes)) (rows-few g first columned-first (w .graph .cuts) (laws .boxes)) x y
 
-    sheet-ready : (r : Outcome) → r ≡ fittedOf (recordOf (sheet g (w .graph .cuts) (take (w .graph .n) cs)) x y) → IsSheet s x y r
+    sheet-ready : (r : Outcome) → r ≡ fittedOf (recordOf (sheet g (w .graph .cuts) (take (w .graph .n) cs)) x y) → Made s x y r
     unfolding sheeted sheetOfDag
     sheet-ready r e =
         let c : graphed s ≡ cut (dagIn (w .graph)) = sym (a .graphs) ∙ rw answered in
@@ -336,10 +340,10 @@ module _ (s : List ℕ) (x y : ℕ) (w : Graphing) (a : IsGraph s w) where
         }
 
   -- either way
-  pub sheet-is : (cs : List ℕ) → cs ≡ columnsIn (w .graph .n) (endsIn (w .graph .sources)) (endsIn (w .graph .sinks)) → (r : Outcome) → r ≡ arrangedOf w cs x y → IsSheet s x y r
+  pub sheet-is : (cs : List ℕ) → cs ≡ columnsIn (w .graph .n) (endsIn (w .graph .sources)) (endsIn (w .graph .sinks)) → (r : Outcome) → r ≡ arrangedOf w cs x y → Made s x y r
   sheet-is cs q r e = go (w .answer) refl
     where
-      go : (b : Answer) → w .answer ≡ b → IsSheet s x y r
+      go : (b : Answer) → w .answer ≡ b → Made s x y r
       go Ready h = sheet-ready cs q h r (e ∙ rw h)
       go (Refused number second) h = sheet-refused number second h r (e ∙ rw h)
 
@@ -352,11 +356,11 @@ unfolding shapeOf
 shape-aims n [] a = tt
 shape-aims n (p ∷ g) a = (under n (p .sources) (a .0 .sources), under n (p .sinks) (a .0 .sinks), shape-aims n g (a .1))
 
-shape-long : (g : Graph) → length (shapeOf g) ≡ length g
+pub shape-long : (g : Graph) → length (shapeOf g) ≡ length g
 unfolding shapeOf
 shape-long g = length-map g incidentsOf
 
-firsts-of : (g : Graph) → Aimed (length g) g → FirstColumns (length g) (firstColumns (shapeOf g))
+pub firsts-of : (g : Graph) → Aimed (length g) g → FirstColumns (length g) (firstColumns (shapeOf g))
 firsts-of g a =
     let h : Shape = shapeOf g in
     let o : EachOnce (length g) (firstColumns h) = rw (shape-long g) at (each-once h (subst (λ (k : ℕ). Led k h) (sym (shape-long g)) (shape-aims (length g) g a))) in

@@ -27,10 +27,10 @@ use Rattle.graph.proofs.AimLaws.{all-in}
 use Rattle.graph.proofs.Gathers.{graph-laws}
 use Rattle.grid.specs.Lists.{largest, total}
 use Rattle.grid.specs.RenderNode.{lineLength, textLength}
-use Rattle.grid.specs.SheetTheorem.{edgeBytes, Small}
+use Rattle.grid.proofs.SheetTheorem.{edgeBytes, Small}
 
 -- ---- a given node keeps its bytes
-abbrev bytes : List Edge → ℕ
+abbrev pub bytes : List Edge → ℕ
 bytes es = total (map textLength es)
 
 abbrev lengths : List Part → ℕ
@@ -45,7 +45,7 @@ lengths-blanks [] zero = refl
 lengths-blanks [] (suc k) = omega (arith, lengths-blanks [] k)
 lengths-blanks (t ∷ ts) k = cc (lengths-blanks ts k)
 
-bytes-kept : (es fs : List Edge) → Begins (textsAt es) (textsAt fs) → bytes fs ≡ bytes es
+pub bytes-kept : (es fs : List Edge) → Begins (textsAt es) (textsAt fs) → bytes fs ≡ bytes es
 bytes-kept es fs b = bytes-texts fs ∙ ap lengths (b .texts) ∙ lengths-blanks (textsAt es) (b .blanks) ∙ sym (bytes-texts es)
 
 node-kept : (g h : Graph) (k : ℕ) → Texts g h k → edgeBytes (nodeAt h k) ≡ edgeBytes (nodeAt g k)

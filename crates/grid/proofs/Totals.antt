@@ -12,7 +12,7 @@ use Rattle.graph.specs.Graph.{Line, Node, Graph, nodeAt}
 use Rattle.grid.specs.Lists.{largest, total}
 use Rattle.grid.specs.RenderNode.{lineLength, noWidth, written, linesHeight, boxWidth, boxHeight}
 use Rattle.grid.specs.RenderGrid.{extent, begins, reach, widths, tallnesses}
-use Rattle.grid.specs.SheetTheorem.{edgeBytes}
+use Rattle.grid.proofs.SheetTheorem.{edgeBytes}
 
 -- the sizes of the boxes before line c
 abbrev before : List ℕ → List ℕ → ℕ → ℕ

@@ -1,20 +1,15 @@
--- Demand 3, the box theorem: what is claimed of a sheet that is laid out from a chart, a field for each sentence; and what is claimed of `sheet`.
+-- Demand 3, the box theorem: what is claimed of a sheet that is laid out from a chart, a field for each sentence.
 -- Assumes nothing.
 use Prim.Native.Nat.{ℕ, _+_, _*_, _≤_, _<_}
 use mathlib.Core.Path.{_≡_}
 use mathlib.Core.Logic.{_⊎_, _↔_}
-use mathlib.Core.List.{List, []}
 use lib.ListN.{length, getD}
-use Rattle.chart.specs.declared.Answer.the-variants.{Ready}
 use Rattle.graph.specs.Graph.{Graph, nodeAt}
-use Rattle.graph.specs.Graphed.{Dag, ready as cut, graphed}
 use Rattle.grid.specs.declared.BoxRecord.{BoxRecord}
 use Rattle.grid.specs.declared.SheetRecord.{SheetRecord}
-use Rattle.grid.specs.declared.Outcome.{Outcome}
 use Rattle.grid.specs.RenderNode.{boxWidth, boxHeight}
 use Rattle.grid.specs.Record.{noBox}
 use Rattle.grid.specs.Cells.{cellAt, cellsIn}
-use Rattle.grid.specs.Sheeted.{sheeted, outcomeOf}
 
 -- box k of the sheet
 abbrev pub box : SheetRecord → ℕ → BoxRecord
@@ -64,10 +59,3 @@ pub record BoxTheorem (n cuts : ℕ) (g : Graph) (s : SheetRecord) : Type 0 wher
   pub top : (k : ℕ) → k < s .count → 128 ≤ box s k .y
   pub right : (k : ℕ) → k < s .count → box s k .x + box s k .width + 128 ≤ s .width
   pub bottom : (k : ℕ) → k < s .count → box s k .y + box s k .height + 128 ≤ s .height
-
--- what `sheet` promises, for every byte string s and every origin x y
-pub record IsSheet (s : List ℕ) (x y : ℕ) (r : Outcome) : Type 0 where
-  -- every field of the answer is the definition's
-  pub whole : r ≡ outcomeOf x y (sheeted s x y)
-  -- the box theorem of the sheet itself: byte 1 is the number of nodes, d the graph that the walk cut
-  pub boxes : (d : Dag) → graphed s ≡ cut d → r .answer ≡ Ready → BoxTheorem (getD s 1 0) (d .cuts) (d .graph) (r .sheet)

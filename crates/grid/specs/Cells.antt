@@ -9,11 +9,13 @@ use lib.ListN.{getD, set, replicate}
 use Rattle.laws.specs.Each.{each}
 use Rattle.grid.specs.declared.BoxRecord.{BoxRecord}
 use Rattle.grid.specs.declared.SheetRecord.{SheetRecord}
-use Rattle.grid.specs.Record.{noBox}
+use Rattle.chart.specs.declared.Answer.{Answer}
+use Rattle.chart.specs.declared.Answer.the-variants.{Ready, Refused}
+use Rattle.grid.specs.Record.{noBox, soundOf}
 
--- the cell at row r and column c
+-- the cell at row r and column c; where there is none, no box
 abbrev pub cellAt : List (List ℕ) → ℕ → ℕ → ℕ
-cellAt g r c = getD (getD g r []) c 0
+cellAt g r c = getD (getD g r []) c 255
 
 -- the grid with box k there
 abbrev pub put : List (List ℕ) → ℕ → ℕ → ℕ → List (List ℕ)
@@ -30,6 +32,13 @@ placed bs k g =
 -- the rows of cells of a sheet, the boxes placed by rising number; none where the count is past the array
 unfoldable pub cellsIn : SheetRecord → List (List ℕ)
 cellsIn s = cond (leb (s .count) 48) (each noCells (placed (s .boxes)) (s .count)) noCells
+
+-- what `cells` answers, and what the lent grid holds then: 14 for a sheet that is not sound, which writes nothing
+abbrev pub cellsAnswer : SheetRecord → Answer
+cellsAnswer s = cond (soundOf s) Ready (Refused 14 0)
+
+abbrev pub cellsLeft : SheetRecord → List (List ℕ) → List (List ℕ)
+cellsLeft s grid = cond (soundOf s) (cellsIn s) grid
 
 -- box k's record names the cell
 pub record Named (bs : List BoxRecord) (k r c : ℕ) : Type 0 where

@@ -11,8 +11,8 @@ pub mod Sheeted
 pub mod Cells
 pub mod Labels
 pub mod Labelled
-pub mod SheetTheorem
 pub mod BoxTheorem
+pub mod LaidOut
 pub mod Arrays
 pub mod Leads
 pub mod Walk

@@ -1,8 +1,7 @@
 -- Document 01, module 8: the sheet, as `RenderGrid::new` has it, from the graph, its columns and its rows.
 -- Assumes nothing.
 use Prim.Native.Nat.{ℕ, zero, suc, _+_, max}
-use mathlib.Core.Option.{Option, none, some}
-use mathlib.Core.Bool.{cond, _&&_}
+use mathlib.Core.Bool.{cond}
 use mathlib.Core.List.{List, [], _∷_, map}
 use lib.Dec.{eqb}
 use lib.ListN.{length}
@@ -29,12 +28,6 @@ begins gap places sizes (suc c) = begins gap places sizes c + extent places size
 abbrev pub reach : ℕ → List ℕ → List ℕ → ℕ
 reach gap places sizes = begins gap places sizes (largest places) + extent places sizes (largest places) + 128
 
--- the number of the box, k or more, that has row r and column c, where the lists are those from box k on
-abbrev pub holds : ℕ → List ℕ → List ℕ → ℕ → ℕ → Option ℕ
-holds k [] cols r c = none
-holds k (y ∷ rows) [] r c = none
-holds k (y ∷ rows) (x ∷ cols) r c = cond (eqb y r && eqb x c) (some k) (holds (suc k) rows cols r c)
-
 -- a box's record: it spans x to x plus width and y to y plus height; texts and points are in their final places
 pub record Box : Type 0 where
   pub column : ℕ
@@ -54,7 +47,6 @@ pub record Sheet : Type 0 where
   pub height : ℕ
   pub cuts : ℕ
   pub boxes : List Box
-  pub cells : List (List (Option ℕ))
 
 -- `translate`
 abbrev pub textMoved : ℕ → ℕ → Text → Text
@@ -93,10 +85,6 @@ abbrev pub boxOf : Graph → List ℕ → List ℕ → ℕ → Box
 boxOf g cols rows k =
     boxAt (nodeAt g k) (at cols k) (at rows k) (begins 1024 cols (widths g) (at cols k)) (begins 2048 rows (tallnesses g) (at rows k))
 
--- row r of cells
-abbrev pub cellsOf : List ℕ → List ℕ → ℕ → List (Option ℕ)
-cellsOf cols rows r = tabulate (λ c. holds 0 rows cols r c) 0 (suc (largest cols))
-
 -- The sheet of the graph with these columns and rows, which has so many cuts. Columns and rows run to the largest used, so an empty chart has one empty cell.
 unfoldable pub sheetOf : Graph → ℕ → List ℕ → List ℕ → Sheet
 sheetOf g cuts cols rows =
@@ -107,7 +95,6 @@ sheetOf g cuts cols rows =
       height = reach 2048 rows (tallnesses g);
       cuts = cuts;
       boxes = tabulate (boxOf g cols rows) 0 (length g);
-      cells = tabulate (cellsOf cols rows) 0 (suc (largest rows));
     }
 
 -- modules 6, 7 and 8: the sheet of a cut graph whose nodes have these first columns

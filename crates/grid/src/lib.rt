@@ -10,7 +10,7 @@ ghost use Rattle.grid.specs.Rendered.{Seated};
 ghost use Rattle.grid.specs.RenderGrid.{sheet};
 ghost use Rattle.grid.specs.Curves.{recordOf};
 ghost use Rattle.grid.specs.Sheeted.{within as withinOf, refusal, outcomeOf, arrangedOf};
-ghost use Rattle.grid.specs.BoxTheorem.{IsSheet};
+ghost use Rattle.grid.specs.LaidOut.{IsSheet};
 ghost use Rattle.grid.specs.Labelled.{refusal as noPlace, labelled, labelOutcomeOf};
 use chart::Answer;
 use graph::Tables;

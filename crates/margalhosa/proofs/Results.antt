@@ -1,18 +1,33 @@
--- What `grid::sheet` promises, as the result for C: where the number is 0 the sheet is drawn, and the box theorem is handed on.
+-- What `grid` and `path` promise, as the results for C: where the number is 0 nothing is refused, and the promises are handed on.
 -- Assumes nothing.
-use Prim.Native.Nat.{ℕ}
-use mathlib.Core.Path.{_≡_, refl, sym, ap, _∙_}
+use Prim.Native.Nat.{ℕ, _+_, _≤_}
+use native.Mathlib.Omega.{arith}
+use mathlib.Core.Path.{_≡_, refl, sym, ap, _∙_, subst}
 use mathlib.Core.Bool.{Bool, true, false, cond}
-use mathlib.Core.List.{List}
+use mathlib.Core.List.{List, _++_}
+use lib.ListN.{length, take, drop}
 use mir.Val.{boolByte}
 use Rattle.chart.specs.declared.Answer.{Answer}
 use Rattle.chart.specs.declared.Answer.the-variants.{Ready}
 use Rattle.chart.specs.Read.{numbersOf}
 use Rattle.grid.specs.declared.Outcome.{Outcome}
 use Rattle.grid.specs.Sheeted.{sheeted, outcomeOf}
-use Rattle.grid.specs.BoxTheorem.{IsSheet}
-use Rattle.margalhosa.specs.Results.{sheetResult, IsSheetResult}
-use Rattle.margalhosa.proofs.Zeros.{sheet-zero}
+use Rattle.grid.specs.LaidOut.{IsSheet}
+use Rattle.grid.specs.declared.SheetRecord.{SheetRecord}
+use Rattle.grid.specs.Labelled.{Labelled}
+use Rattle.path.specs.declared.Written.{Written}
+use Rattle.path.specs.declared.Written.the-variants.{Done, Refused}
+use Rattle.path.specs.declared.LabelSpan.{LabelSpan}
+use Rattle.path.specs.Reader.{Answer as Path, read}
+use Rattle.path.specs.Answers.{sheetAnswer, writtenOf}
+use Rattle.path.specs.Promises.{SheetText, IsWritten, IsRewritten}
+use Rattle.path.specs.Label.{Place, chart, table, Within, spanPlace, IsLabelSpan}
+use Rattle.path.proofs.TextSizes.{own-text-most}
+use Rattle.path.proofs.Promises.{read-judged}
+use Rattle.margalhosa.specs.declared.CountResult.{CountResult}
+use Rattle.margalhosa.specs.declared.PartResult.{PartResult}
+use Rattle.margalhosa.specs.Results.{sheetResult, IsSheetResult, writtenResult, IsTextResult, IsRewriteResult, partResult, IsPartResult}
+use Rattle.margalhosa.proofs.Zeros.{sheet-zero, sheet-path, text-path, Path-some, IsDone, written-zero}
 
 module _ (s : List ℕ) (x y : ℕ) (o : Outcome) (i : IsSheet s x y o) (n m : ℕ) (a : n ≡ numbersOf (o .answer) .first) (b : m ≡ numbersOf (o .answer) .second) where
   ready-at : n ≡ 0 → o .answer ≡ Ready
@@ -25,10 +40,63 @@ module _ (s : List ℕ) (x y : ℕ) (o : Outcome) (i : IsSheet s x y o) (n m : �
       record {
         whole = rw (a, b) (ap sheetResult (i .whole));
         drawn = λ z. sym (i .whole) ∙ rw (← ready-at z);
-        boxes = λ d g z. i .boxes d g (ready-at z);
+        laid = λ z. i .laid (ready-at z);
+        text-most = λ z. own-text-most s x y o i (ready-at z);
+        at-origin = λ d g p q. a ∙ ap (λ (u : Answer). numbersOf u .first) (i .at-origin d g p q);
+        walks = i .walks;
       }
 
 -- a flag as a number
 pub as-number : (b : Bool) → boolByte b ≡ cond b 1 0
 as-number true = refl
 as-number false = refl
+
+-- ---- what is written
+done-count : (w : Written) → IsDone w → w ≡ Done (writtenResult w .count)
+done-count (Done n) d = refl
+done-count (Refused a b) d = absurd d
+
+-- where the number is 0, all is written that is counted
+module _ (buf : List ℕ) (p : Path) (some : Path-some p) (w : Written) (i : w ≡ writtenOf buf p) (r : CountResult) (e : r ≡ writtenResult w) where
+  is-done : r .refused ≡ 0 → w ≡ Done (r .count)
+  is-done z =
+      let d : IsDone (writtenOf buf p) = written-zero buf p some (ap (λ (u : Written). writtenResult u .refused) (sym i) ∙ ap (λ (u : CountResult). u .refused) (sym e) ∙ z) in
+      done-count w (subst IsDone (sym i) d) ∙ ap (λ (u : CountResult). Done (u .count)) (sym e)
+
+pub text-is : (s : SheetRecord) (buf : List ℕ) (w : Written) (out : List ℕ) → IsWritten s buf w out → (r : CountResult) → r ≡ writtenResult w → IsTextResult s buf r out
+text-is s buf w out i r e =
+    record {
+      whole = e ∙ ap writtenResult (i .whole);
+      bytes = i .bytes;
+      text = λ z. i .text (r .count) (is-done buf (sheetAnswer s) (sheet-path s) w (i .whole) r e z);
+    }
+
+pub rewrite-is : (s buf : List ℕ) (w : Written) (out : List ℕ) → IsRewritten s buf w out → (r : CountResult) → r ≡ writtenResult w → IsRewriteResult s buf r out
+rewrite-is s buf w out i r e =
+    record {
+      written = w;
+      promised = i;
+      whole = e;
+      same = λ z. i .same (r .count) (is-done buf (i .answer) (subst Path-some (i .reading .only (read s) (read-judged s)) (text-path s)) w (i .whole) r e z);
+    }
+
+-- ---- a label's part
+module _ (m n : ℕ) (q : LabelSpan) (w : Within m n (spanPlace q)) where
+  span-in-chart : (b : Bool) → q .fixed ≡ b → _≡_ {A = ℕ} (cond b 1 0) 0 → q .at + q .len ≤ m
+  span-in-chart true e z = absurd (omega arith)
+  span-in-chart false e z = (rw e at w) .1
+
+  span-in-table : (b : Bool) → q .fixed ≡ b → _≡_ {A = ℕ} (cond b 1 0) 1 → q .at + q .len ≤ n
+  span-in-table true e z = (rw e at w) .1
+  span-in-table false e z = absurd (omega arith)
+
+pub part-is : (s t : List ℕ) (l : Labelled) (q : LabelSpan) → IsLabelSpan s t l q → (r : PartResult) → r ≡ partResult q → IsPartResult s t l r
+part-is s t l q i r e =
+    subst (IsPartResult s t l) (sym e)
+    (record {
+      span = q;
+      promised = i;
+      whole = refl;
+      in-chart = λ z. span-in-chart (length s) (length t) q (i .within) (q .fixed) refl z;
+      in-table = λ z. span-in-table (length s) (length t) q (i .within) (q .fixed) refl z;
+    })

@@ -151,7 +151,7 @@ pub part-zero : (t s : List ℕ) (x y k i : ℕ) → partResult (labelSpanOf t (
 part-zero t s x y k i = span-zero (tabled t (labelled s x y k i)) (label-some t s x y k i)
 
 -- ---- segments, of a sheet (14) or of a path text (17 to 19); then 15, 16
-abbrev Path-some : Path → Type 0
+abbrev pub Path-some : Path → Type 0
 Path-some (segments ds) = Unit {0}
 Path-some (unpathed n p) = 0 < n
 

@@ -1,18 +1,21 @@
 -- What the functions for C answer, by what the operations of document 01 do: its two numbers of the refusal, 0 0 where nothing is refused, and the value.
 -- Assumes nothing.
-use Prim.Native.Nat.{ℕ}
+use Prim.Native.Nat.{ℕ, _+_, _≤_}
 use mathlib.Core.Path.{_≡_}
 use mathlib.Core.Bool.{cond}
-use mathlib.Core.List.{List}
-use lib.ListN.{getD}
+use mathlib.Core.List.{List, _++_}
+use lib.ListN.{length, take, drop}
 use lib.Ieee.{binary32, ofBits}
 use Rattle.chart.specs.declared.Answer.the-variants.{Ready}
+use Rattle.chart.specs.Chart.{Board, ready as accepted, chart}
 use Rattle.chart.specs.Read.{Numbers, numbersOf}
 use Rattle.graph.specs.Graphed.{Dag, ready as cut, graphed}
 use Rattle.grid.specs.declared.Outcome.{Outcome}
 use Rattle.grid.specs.declared.BoxAnswer.{BoxAnswer}
 use Rattle.grid.specs.Sheeted.{sheeted, outcomeOf}
-use Rattle.grid.specs.BoxTheorem.{BoxTheorem}
+use Rattle.grid.specs.LaidOut.{LaidOut, AllWalks}
+use Rattle.grid.specs.Labelled.{Labelled}
+use Rattle.grid.specs.declared.SheetRecord.{SheetRecord}
 use Rattle.path.specs.declared.Pen.{Pen}
 use Rattle.path.specs.declared.Segment.{Segment}
 use Rattle.path.specs.declared.Segment.the-variants.{Move, Line, Cubic, Close}
@@ -24,7 +27,11 @@ use Rattle.path.specs.declared.Written.{Written}
 use Rattle.path.specs.declared.Written.the-variants.{Done, Refused}
 use Rattle.path.specs.declared.LabelAnswer.{LabelAnswer}
 use Rattle.path.specs.declared.LabelSpan.{LabelSpan}
-use Rattle.path.specs.Answers.{givenNumbers, countNumbers, writtenNumbers}
+use Rattle.path.specs.Text.{textOf}
+use Rattle.path.specs.Segments.{drawnOf}
+use Rattle.path.specs.Answers.{sheetAnswer, writtenOf, leftOf, givenNumbers, countNumbers, writtenNumbers}
+use Rattle.path.specs.Promises.{SheetText, IsCount, IsRewritten}
+use Rattle.path.specs.Label.{IsLabelSpan}
 use Rattle.margalhosa.specs.declared.SheetResult.{SheetResult}
 use Rattle.margalhosa.specs.declared.BoxResult.{BoxResult}
 use Rattle.margalhosa.specs.declared.SegmentResult.{SegmentResult}
@@ -42,8 +49,12 @@ pub record IsSheetResult (s : List ℕ) (x y : ℕ) (r : SheetResult) : Type 0 w
   pub whole : r ≡ sheetResult (outcomeOf x y (sheeted s x y))
   -- 0 is no refusal's number: the sheet is drawn (of the other results: proofs/Zeros.antt)
   pub drawn : r .refused ≡ 0 → outcomeOf x y (sheeted s x y) ≡ record { answer = Ready; sheet = r .sheet }
-  -- the box theorem of the sheet itself: byte 1 is the number of nodes, d the graph that the walk cut
-  pub boxes : (d : Dag) → graphed s ≡ cut d → r .refused ≡ 0 → BoxTheorem (getD s 1 0) (d .cuts) (d .graph) (r .sheet)
+  -- what is claimed of a sheet that is drawn; its text has at most 9,467 bytes
+  pub laid : r .refused ≡ 0 → LaidOut s x y (r .sheet)
+  pub text-most : r .refused ≡ 0 → length (textOf (drawnOf (r .sheet))) ≤ 9467
+  -- at origin 0 0 no chart that 1 to 13 leave is refused; and the walks, also of a board that 13 refuses
+  pub at-origin : (d : Dag) → graphed s ≡ cut d → x ≡ 0 → y ≡ 0 → r .refused ≡ 0
+  pub walks : (board : Board) → chart s ≡ accepted board → AllWalks board
 
 abbrev pub boxResult : BoxAnswer → BoxResult
 boxResult b = record { refused = numbersOf (b .answer) .first; second = numbersOf (b .answer) .second; place = b .place }
@@ -67,6 +78,12 @@ abbrev pub segmentResult : Given → SegmentResult
 segmentResult (Drawn g) = segmentIn (givenNumbers (Drawn g)) g
 segmentResult (Given·Refused n p) = segmentBy (givenNumbers (Given·Refused n p)) 0 noPen noPen noPen
 
+-- what `margalhosa_segment` and `margalhosa_text_segment` promise: the segment is the one that `path` promises (`IsSegment`, `IsGiven`)
+pub record IsSegmentResult (Promised : Given → Type 0) (r : SegmentResult) : Type 0 where
+  pub given : Given
+  pub promised : Promised given
+  pub whole : r ≡ segmentResult given
+
 -- ---- counts: of the bytes written, of the segments of a text
 abbrev pub countBy : Numbers → ℕ → CountResult
 countBy n count = record { refused = n .first; second = n .second; count = count }
@@ -79,24 +96,36 @@ abbrev pub countResult : Counted → CountResult
 countResult (Segments n) = countBy (countNumbers (Segments n)) n
 countResult (Count·Refused n p) = countBy (countNumbers (Count·Refused n p)) 0
 
+-- what `margalhosa_text` promises: the buffer is `buf` before and `out` after
+pub record IsTextResult (s : SheetRecord) (buf : List ℕ) (r : CountResult) (out : List ℕ) : Type 0 where
+  pub whole : r ≡ writtenResult (writtenOf buf (sheetAnswer s))
+  pub bytes : out ≡ leftOf buf (sheetAnswer s)
+  pub text : r .refused ≡ 0 → SheetText s (take (r .count) out)
+
+-- `margalhosa_text_count`
+pub record IsCountResult (s : List ℕ) (r : CountResult) : Type 0 where
+  pub counted : Counted
+  pub promised : IsCount s counted
+  pub whole : r ≡ countResult counted
+
+-- `margalhosa_rewrite`
+pub record IsRewriteResult (s buf : List ℕ) (r : CountResult) (out : List ℕ) : Type 0 where
+  pub written : Written
+  pub promised : IsRewritten s buf written out
+  pub whole : r ≡ writtenResult written
+  pub same : r .refused ≡ 0 → (r .count ≡ length s) × (out ≡ s ++ drop (r .count) buf)
+
 -- ---- labels
 abbrev pub labelResult : LabelAnswer → LabelResult
-labelResult l =
-    record {
-      refused = numbersOf (l .answer) .first;
-      second = numbersOf (l .answer) .second;
-      x = l .x;
-      y = l .y;
-      size = l .size;
-      width = l .width;
-    }
+labelResult l = record { refused = numbersOf (l .answer) .first; second = numbersOf (l .answer) .second; x = l .x; y = l .y; size = l .size; width = l .width }
 
 abbrev pub partResult : LabelSpan → PartResult
-partResult l =
-    record {
-      refused = numbersOf (l .answer) .first;
-      second = numbersOf (l .answer) .second;
-      fixed = cond (l .fixed) 1 0;
-      at = l .at;
-      len = l .len;
-    }
+partResult l = record { refused = numbersOf (l .answer) .first; second = numbersOf (l .answer) .second; fixed = cond (l .fixed) 1 0; at = l .at; len = l .len }
+
+-- what `margalhosa_label_part` promises: the part lies within the chart s or the table t
+pub record IsPartResult (s t : List ℕ) (l : Labelled) (r : PartResult) : Type 0 where
+  pub span : LabelSpan
+  pub promised : IsLabelSpan s t l span
+  pub whole : r ≡ partResult span
+  pub in-chart : r .fixed ≡ 0 → r .at + r .len ≤ length s
+  pub in-table : r .fixed ≡ 1 → r .at + r .len ≤ length t

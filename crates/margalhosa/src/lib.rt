@@ -2,12 +2,11 @@
 // In each result `refused` is document 01's number of the refusal, 0 where nothing is refused, and `second` its second number.
 ghost use mathlib.Core.Path.{_≡_};
 ghost use Rattle.chart.specs.Read.{numbersOf};
-ghost use Rattle.path.specs.Reader.{read};
-ghost use Rattle.path.specs.Answers.{sheetAnswer, countOf, givenOf, writtenOf, leftOf};
 ghost use Rattle.grid.specs.Record.{boxAnswerOf};
 ghost use Rattle.grid.specs.Labelled.{labelled};
-ghost use Rattle.path.specs.Label.{labelAnswerOf, labelSpanOf};
-ghost use Rattle.margalhosa.specs.Results.{IsSheetResult, noPen, boxResult, segmentResult, writtenResult, countResult, labelResult, partResult};
+ghost use Rattle.path.specs.Promises.{IsSegment, IsGiven};
+ghost use Rattle.path.specs.Label.{labelAnswerOf};
+ghost use Rattle.margalhosa.specs.Results.{IsSheetResult, noPen, boxResult, segmentResult, IsSegmentResult, writtenResult, IsTextResult, countResult, IsCountResult, IsRewriteResult, labelResult, IsPartResult};
 use chart::Answer;
 use grid::BoxRecord;
 use grid::SheetRecord;
@@ -230,7 +229,7 @@ pub extern "C" fn margalhosa_box(sheet: SheetRecord, k: u32) -> BoxResult
 // Segment k of a sheet: 14, 15.
 #[no_mangle]
 pub extern "C" fn margalhosa_segment(sheet: SheetRecord, k: u32) -> SegmentResult
-    ensures { λ r. ⌜ r ≡ segmentResult (givenOf k (sheetAnswer sheet)) ⌝ }
+    ensures { λ r. ⌜ IsSegmentResult (IsSegment sheet k) r ⌝ }
 {
     given(path::sheet_segment(sheet, k as usize))
 }
@@ -238,8 +237,7 @@ pub extern "C" fn margalhosa_segment(sheet: SheetRecord, k: u32) -> SegmentResul
 // The whole text of a sheet, written at the buffer's start: 14, 16. Refused, nothing is written.
 #[no_mangle]
 pub extern "C" fn margalhosa_text(sheet: SheetRecord, buf: &mut [u8]) -> CountResult
-    ensures { λ r. ⌜ r ≡ writtenResult (writtenOf (now (buf .entry)) (sheetAnswer sheet)) ⌝ }
-    ensures { λ _. ⌜ now (buf .exit) ≡ leftOf (now (buf .entry)) (sheetAnswer sheet) ⌝ }
+    ensures { λ r. ⌜ IsTextResult sheet (now (buf .entry)) r (now (buf .exit)) ⌝ }
 {
     written(path::write_sheet(sheet, buf))
 }
@@ -278,7 +276,7 @@ pub extern "C" fn margalhosa_label_part(
     k: u32,
     i: u32,
 ) -> PartResult
-    ensures { λ r. ⌜ r ≡ partResult (labelSpanOf (now (table .entry)) (labelled (now (chart .entry)) x y k i)) ⌝ }
+    ensures { λ r. ⌜ IsPartResult (now (chart .entry)) (now (table .entry)) (labelled (now (chart .entry)) x y k i) r ⌝ }
 {
     let l = path::label_span(chart, x, y, table, k as usize, i as usize);
     let answer = l.answer;
@@ -294,7 +292,7 @@ pub extern "C" fn margalhosa_label_part(
 // How many segments a path text has: 17 to 19.
 #[no_mangle]
 pub extern "C" fn margalhosa_text_count(text: &[u8]) -> CountResult
-    ensures { λ r. ⌜ r ≡ countResult (countOf (read (now (text .entry)))) ⌝ }
+    ensures { λ r. ⌜ IsCountResult (now (text .entry)) r ⌝ }
 {
     counted(path::text_count(text))
 }
@@ -302,7 +300,7 @@ pub extern "C" fn margalhosa_text_count(text: &[u8]) -> CountResult
 // Segment k of a path text: 17 to 19, then 15.
 #[no_mangle]
 pub extern "C" fn margalhosa_text_segment(text: &[u8], k: u32) -> SegmentResult
-    ensures { λ r. ⌜ r ≡ segmentResult (givenOf k (read (now (text .entry)))) ⌝ }
+    ensures { λ r. ⌜ IsSegmentResult (IsGiven (now (text .entry)) k) r ⌝ }
 {
     given(path::text_segment(text, k as usize))
 }
@@ -310,8 +308,7 @@ pub extern "C" fn margalhosa_text_segment(text: &[u8], k: u32) -> SegmentResult
 // A path text read and written again, at the buffer's start: 17 to 19, then 16. Refused, nothing is written.
 #[no_mangle]
 pub extern "C" fn margalhosa_rewrite(text: &[u8], buf: &mut [u8]) -> CountResult
-    ensures { λ r. ⌜ r ≡ writtenResult (writtenOf (now (buf .entry)) (read (now (text .entry)))) ⌝ }
-    ensures { λ _. ⌜ now (buf .exit) ≡ leftOf (now (buf .entry)) (read (now (text .entry))) ⌝ }
+    ensures { λ r. ⌜ IsRewriteResult (now (text .entry)) (now (buf .entry)) r (now (buf .exit)) ⌝ }
 {
     written(path::rewrite(text, buf))
 }

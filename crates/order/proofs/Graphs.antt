@@ -13,7 +13,7 @@ use Rattle.graph.specs.declared.Tables.{Tables}
 use Rattle.graph.specs.declared.Ends.{Ends}
 use Rattle.graph.specs.declared.Outcome.{Outcome as GraphOutcome}
 use Rattle.graph.specs.Graphed.{ready as cut, refusal as refused, graphed}
-use Rattle.graph.specs.Outcome.{IsGraph}
+use Rattle.graph.specs.Outcome.{Graphs}
 use Rattle.graph.specs.Shape.{Shape, shapeOf}
 use Rattle.graph.specs.Ends.{endsIn, shapeFrom, Linked as EndsLinked}
 use Rattle.graph.specs.Tables.{Linked, graphOf}
@@ -71,7 +71,7 @@ module _ (t : Tables) (long : length (t .sources .items) ≡ 88) (long₂ : leng
   once = rw (size, ← shape-held t) (once-in (t .n) (endsIn (t .sources)) (endsIn (t .sinks)) sources-linked sinks-linked)
 
 -- ---- what `order` promises, from what `graph` does
-module _ (s : List ℕ) (o : GraphOutcome) (a : IsGraph s o) where
+module _ (s : List ℕ) (o : GraphOutcome) (a : Graphs s o) where
   refused-none : {A : Type 0} (number second : ℕ) (cs : List ℕ) → refusal number second ≡ ready cs → A
   refused-none number second cs e = let z : _≡_ {A = ℕ} 0 1 = cc in absurd (omega arith)
 

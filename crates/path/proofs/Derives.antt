@@ -85,10 +85,10 @@ number-derive h r g = rw (append-assoc (digits (h / 2)) (halfText (h % 2)) r) (g
     go : (m : ℕ) → Number (digits (h / 2) ++ (halfText m ++ r)) (valueFor m (h / 2)) r
     go zero =
         let d : (k : ℕ) × Digits 0 (digits (h / 2) ++ r) (h / 2) k r = digits-derive (suc (h / 2)) (h / 2) r (omega arith) in
-        svg.integer svg.none (d .1) (apart NotInteger no-integer r g)
+        svg.number svg.none (svg.integer (d .1) (apart NotInteger no-integer r g))
     go (suc m) =
         let d : (k : ℕ) × Digits 0 (digits (h / 2) ++ 46 ∷ 53 ∷ r) (h / 2) k (46 ∷ 53 ∷ r) = digits-derive (suc (h / 2)) (h / 2) (46 ∷ 53 ∷ r) (omega arith) in
-        svg.fraction svg.none (svg.both (d .1) (svg.one {d = 5} (record { is = refl; small = lit< tt }))) (apart NotFraction no-fraction r g)
+        svg.number svg.none (svg.fraction (svg.both (d .1) (svg.one {d = 5} (record { is = refl; small = lit< tt }))) (apart NotFraction no-fraction r g))
 
 pair-derive : (x y : ℕ) (r : List ℕ) → Gap r → Pair (word x (32 ∷ word y r)) (value x) (value y) r
 pair-derive x y r g = svg.pair (number-derive x (32 ∷ word y r) space) (svg.something (svg.spaces svg.space svg.none)) (number-derive y r g)
@@ -173,3 +173,28 @@ unfolding textOf
 derives ds text.none = ([], svg.empty svg.none svg.none, meaning.none)
 derives ds (text.move {x = x} {y = y} {ds = es}) =
     (commands (Move x y ∷ es), svg.path svg.none (move-first (move-derive x y (restText es) (gap (rest-derive es))) (rest-derive es)) svg.none, mean-all (Move x y ∷ es))
+
+-- ---- and they mean no other segments
+value-back : (h k : ℕ) → IsHalf (value h) k → k ≡ h
+value-back h k i = go (h % 2) refl (omega arith) i
+  where
+    go : (m : ℕ) → h % 2 ≡ m → m < 2 → IsHalf (valueFor m (h / 2)) k → k ≡ h
+    go zero e l j = omega (arith, j .same)
+    go (suc zero) e l j = omega (arith, j .same)
+    go (suc (suc m)) e l j = absurd (omega arith)
+
+means-back : (d e : Drawn) → Means (command d) e → e ≡ d
+means-back (Move x y) e (meaning.move {a = a} {b = b} p q) = cc (value-back x a p, value-back y b q)
+means-back (Line x y) e (meaning.line {a = a} {b = b} p q) = cc (value-back x a p, value-back y b q)
+means-back (Cubic t u v w x y) e (meaning.cubic {a = a} {b = b} {c = c} {d = d} {e = f} {f = g} i j k l m n) =
+    cc (value-back t a i, value-back u b j, value-back v c k, value-back w d l, value-back x f m, value-back y g n)
+means-back Close e meaning.close = refl
+
+mean-back : (ds es : List Drawn) → MeanAll (commands ds) es → es ≡ ds
+mean-back [] es meaning.none = refl
+mean-back (d ∷ ds) es (meaning.more {d = e} {ds = fs} m r) = cc (means-back d e m, mean-back ds fs r)
+
+pub derives-back : (ds : List Drawn) (l : Led ds) (es : List Drawn) → MeanAll (derives ds l .0) es → es ≡ ds
+unfolding textOf derives
+derives-back ds text.none es m = mean-back [] es m
+derives-back ds (text.move {x = x} {y = y} {ds = fs}) es m = mean-back (Move x y ∷ fs) es m

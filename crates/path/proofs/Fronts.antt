@@ -20,7 +20,7 @@ use Rattle.path.specs.declared.reader.Verdict.the-variants.{Fine, Refuse
 use Rattle.path.specs.declared.drawn.Drawn.{Drawn}
 use Rattle.path.specs.Number.{limit, digits, numberText}
 use Rattle.path.specs.Text.{letterOf, numbersOf, numbersText, segmentText, restText, textOf}
-use Rattle.path.specs.Profile.{IsProfile, Continues}
+use Rattle.path.specs.Profile.{IsProfile, Continues, Refusal}
 use Rattle.path.specs.Reader.{actOf, act, grown, moved, Part, Reading, step, runFrom, unread, run, drawnAll, ended, isStopped, given, refused, read}
 use Rattle.path.proofs.Numbers.{digits-one, digits-tens, text-whole, text-half}
 use Rattle.path.proofs.Backs.{wordsBack, front, back, whole, back-text}
@@ -309,11 +309,7 @@ stop-place s (suc i) h z = go (isStopped (run (take i s) .stand .phase)) refl (�
 pub going-on : (t : List ℕ) → isStopped (run t .stand .phase) ≡ false → Continues t
 going-on t z = goes (run t .stand .phase) (run t .stand .left) (run t .stand .value) (run t .parts) t (read-held t) z
 
--- ---- 17: 'Path text that no profile text continues: that byte's place, or the length if it breaks off'
-pub record Refusal (s : List ℕ) (p : ℕ) : Type 0 where
-  pub before : Continues (take p s)
-  pub after : ((p < length s) × (Continues (take (suc p) s) → ⊥)) ⊎ ((p ≡ length s) × (IsProfile s → ⊥))
-
+-- ---- 17
 pub refused-17 : (s : List ℕ) (p : ℕ) → read s ≡ refused 17 p → Refusal s p
 unfolding read
 refused-17 s p e = go (isStopped (run s .stand .phase)) (ended (run s .stand .phase) (run s .stand .left)) (run s .stand .over) (run s .stand .other) refl refl e

@@ -2,7 +2,7 @@
 -- Assumes nothing.
 use Prim.Native.Nat.{ℕ, _+_, _-_, _≤_, _<_}
 use native.Mathlib.Omega.{arith}
-use mathlib.Core.Path.{_≡_, refl, sym, ap, _∙_}
+use mathlib.Core.Path.{_≡_, refl, sym, ap, _∙_, subst}
 use mathlib.Core.Bool.{Bool, true, false, cond}
 use mathlib.Core.List.{List}
 use lib.Dec.{ltb, leb}
@@ -17,7 +17,9 @@ use Rattle.grid.specs.Labels.{noLabel}
 use Rattle.grid.specs.Labelled.{Labelled, ready, refusal, labelled, labelOutcomeOf}
 use Rattle.grid.proofs.LabelPlaces.{Lies, labelled-lies}
 use Rattle.path.specs.declared.label.Span.{Span}
-use Rattle.path.specs.Label.{chart, table, partAt, standIn, standInsTo, standIns, standInSpan, tabled, answerIn, placeIn, labelAnswerOf, labelPartOf, spanIn, labelSpanOf, spanPlace}
+use denote.Ref.{RefT}
+use Rattle.path.specs.declared.LabelSpan.{LabelSpan}
+use Rattle.path.specs.Label.{Place, chart, table, partAt, Within, IsAt, standIn, standInsTo, standIns, standInSpan, tabled, answerIn, placeIn, labelAnswerOf, labelPartOf, IsLabelPart, spanIn, labelSpanOf, spanPlace, IsLabelSpan}
 use Rattle.path.proofs.Labels.{stand-ins-long, stand-in-low, stand-in-high}
 
 -- ---- the table
@@ -159,3 +161,33 @@ span-answer-in (refusal i j) = refl
 
 pub span-answer : (t : List ℕ) (l : Labelled) → labelSpanOf t l .answer ≡ labelAnswerOf t l .answer
 span-answer t l = span-answer-in (tabled t l)
+
+-- ---- the part lies within the chart or the table
+place-within : (s t : List ℕ) (p : LabelPlace) → Lies s p → same t standIns ≡ true → (b : Bool) → p .fixed ≡ b → Within (length s) (length t) (placeIn (ready p))
+place-within s t p l f true e =
+    let q : ℕ = p .number in
+    let w : length (standInsTo q) + length (standIn q) ≤ 86 = span-within q (l .below e) (ltb q 10) refl in
+    let long : length t ≡ 86 = ap length (same-true t standIns f) ∙ stand-ins-long in
+    rw e (omega arith, omega arith)
+place-within s t p l f false e = let h : p .at + p .len ≤ length s = l .inside e in rw e (omega arith, h)
+
+within-by : (s t : List ℕ) (v : Labelled) → ((p : LabelPlace) → v ≡ ready p → Lies s p) → (b : Bool) → same t standIns ≡ b → Within (length s) (length t) (labelPartOf t v)
+within-by s t (ready p) h true e = rw e (place-within s t p (h p refl) e (p .fixed) refl)
+within-by s t (ready p) h false e = rw e (omega arith, omega arith)
+within-by s t (refusal i j) h b e = (omega arith, omega arith)
+
+part-within : (s t : List ℕ) (x y k i : ℕ) → Within (length s) (length t) (labelPartOf t (labelled s x y k i))
+part-within s t x y k i = within-by s t (labelled s x y k i) (λ p e. labelled-lies s x y k i p e) (same t standIns) refl
+
+pub is-label-part : (s t : RefT (List ℕ)) (x y k i : ℕ) (r : RefT (List ℕ)) → IsAt (labelPartOf (t .now) (labelled (s .now) x y k i)) s t r →
+    IsLabelPart s t (labelled (s .now) x y k i) r
+is-label-part s t x y k i r a = record { is = a; within = part-within (s .now) (t .now) x y k i }
+
+pub is-label-span : (s t : List ℕ) (x y k i : ℕ) (r : LabelSpan) → r ≡ labelSpanOf t (labelled s x y k i) → IsLabelSpan s t (labelled s x y k i) r
+is-label-span s t x y k i r e =
+    let f : spanPlace r ≡ labelPartOf t (labelled s x y k i) = ap (λ (u : LabelSpan). spanPlace u) e ∙ span-part t (labelled s x y k i) in
+    record {
+      answer = ap (λ (u : LabelSpan). u .answer) e ∙ span-answer t (labelled s x y k i);
+      place = f;
+      within = subst (Within (length s) (length t)) (sym f) (part-within s t x y k i);
+    }

@@ -7,25 +7,23 @@ use Prim.Native.Nat.{ℕ, suc, _+_, _-_, _≤_, _<_}
 use native.Mathlib.Omega.{arith}
 use borrow.Author.Tests.{le-leb, lt-leb, ltb-true, ltb-false}
 use lib.Dec.{leb, ltb}
-use lib.Ieee.Exact.{HasValue}
 use lib.ListN.{length, take, drop, take-append-drop}
 use lib.Seq.{take-append-le, take-append-seam, drop-append-seam, length-take-le, length-sets}
 use Rattle.laws.specs.Lists.{All}
-use Rattle.chart.specs.Read.{Numbers}
 use Rattle.grid.specs.declared.SheetRecord.{SheetRecord}
 use Rattle.grid.specs.Record.{soundOf}
 use Rattle.path.specs.declared.reader.Verdict.the-variants.{Fine, Refused}
 use Rattle.path.specs.declared.drawn.Drawn.{Drawn}
 use Rattle.path.specs.declared.drawn.Drawn.the-variants.{Move, Line, Cubic, Close}
-use Rattle.path.specs.Halves.{halves}
+use Rattle.path.specs.Drawn.{Exactly, ExactAll}
 use Rattle.path.specs.Number.{numberText}
 use Rattle.path.specs.Text as text
 use Rattle.path.specs.Text.{numbersOf, numbersText, restText, textOf, Small, Smalls, Led}
 use Rattle.path.specs.Segments.{drawnOf}
-use Rattle.path.specs.Profile.{IsProfile, Continues, Large, textBefore, placeOf}
+use Rattle.path.specs.Profile.{IsProfile, Continues, Refusal, Large, textBefore, placeOf}
 use Rattle.path.specs.Writer.{put}
 use Rattle.path.specs.Reader.{Answer, step, unread, run, drawnAll, ended, isStopped, given, segments, refused, read}
-use Rattle.path.specs.Answers.{sheetAnswer, givenOf, writtenOf, leftOf, givenNumbers, writtenNumbers}
+use Rattle.path.specs.Answers.{sheetAnswer, givenOf, writtenOf, leftOf, numbers, givenNumbers, writtenNumbers}
 use Rattle.path.specs.Svg.{Command, SvgPath}
 use Rattle.path.specs.Meaning.{MeanAll}
 use Rattle.path.proofs.Exact.{exact}
@@ -36,7 +34,7 @@ use Rattle.path.proofs.Derives.{derives}
 use Rattle.path.proofs.Accepts as accepts
 use Rattle.path.proofs.Accepts.{run-other}
 use Rattle.path.proofs.Sheets.{drawn-led, drawn-smalls}
-use Rattle.path.proofs.Fronts.{Refusal, text-ended}
+use Rattle.path.proofs.Fronts.{text-ended}
 use Rattle.path.proofs.Fronts as fronts
 use Rattle.path.proofs.Larges as larges
 use Rattle.path.proofs.Larges.{going, smalls-not, either, answered-19}
@@ -57,12 +55,6 @@ module _ (s : SheetRecord) where
     same-segment k = rw (write-read, e)
 
 -- ---- positions: each number of halves that is handed out is that single-precision number, not rounded
-abbrev pub Exactly : ℕ → Type 0
-Exactly h = HasValue (halves h) false h 2
-
-abbrev pub ExactAll : List Drawn → Type 0
-ExactAll ds = All (λ (d : Drawn). All Exactly (numbersOf d)) ds
-
 small-exact : (hs : List ℕ) → Small hs → All Exactly hs
 small-exact hs text.none = tt
 small-exact hs (text.more {h = h} {hs = gs} l r) = (exact h l, small-exact gs r)
@@ -239,9 +231,6 @@ pub refusing-19 : (s : List ℕ) (ds : List Drawn) → textOf ds ≡ s → Small
 refusing-19 s ds e m n = ap read (sym e) ∙ other-19 ds m n
 
 -- ---- document 01's numbers of the answers, in the order that they are asked
-abbrev numbers : ℕ → ℕ → Numbers
-numbers a b = record { first = a; second = b }
-
 -- a segment of a sheet: 14, then 15
 pub segment-numbers : (s : SheetRecord) (k : ℕ) → givenNumbers (givenOf k (sheetAnswer s)) ≡ cond (soundOf s) (cond (ltb k (length (drawnOf s))) (numbers 0 0) (numbers 15 0)) (numbers 14 0)
 segment-numbers s k = go (soundOf s) (ltb k (length (drawnOf s))) refl

@@ -85,7 +85,7 @@ module _ {A : Type 0} (f : A → List Drawn) (m : ℕ) (long : (a : A) → lengt
       let e : m * suc i + j ≡ length (f x) + (m * i + j) = omega (arith, mul-suc m i, long x) in
       ap (λ (k : ℕ). getD (f x ++ joined f xs) k d) e ∙ getD-append-add (f x) (joined f xs) (m * i + j) d ∙ joined-at xs z d i j h (omega arith)
 
-take-most : {A : Type 0} (n : ℕ) (xs : List A) → length (take n xs) ≤ n
+pub take-most : {A : Type 0} (n : ℕ) (xs : List A) → length (take n xs) ≤ n
 take-most zero xs = omega arith
 take-most (suc n) [] = omega arith
 take-most (suc n) (x ∷ xs) = omega (arith, take-most n xs)

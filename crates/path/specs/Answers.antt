@@ -44,14 +44,17 @@ leftOf buf (segments ds) = placed buf 0 (textOf ds)
 leftOf buf (refused n p) = buf
 
 -- ---- document 01's two numbers of each case; 0 0 where nothing is refused
+abbrev pub numbers : ℕ → ℕ → Numbers
+numbers a b = record { first = a; second = b }
+
 abbrev pub givenNumbers : Given → Numbers
-givenNumbers (Given·Drawn g) = record { first = 0; second = 0 }
-givenNumbers (Given·Refused n p) = record { first = n; second = p }
+givenNumbers (Given·Drawn g) = numbers 0 0
+givenNumbers (Given·Refused n p) = numbers n p
 
 abbrev pub countNumbers : Counted → Numbers
-countNumbers (Segments n) = record { first = 0; second = 0 }
-countNumbers (Count·Refused n p) = record { first = n; second = p }
+countNumbers (Segments n) = numbers 0 0
+countNumbers (Count·Refused n p) = numbers n p
 
 abbrev pub writtenNumbers : Written → Numbers
-writtenNumbers (Done n) = record { first = 0; second = 0 }
-writtenNumbers (Refused n p) = record { first = n; second = p }
+writtenNumbers (Done n) = numbers 0 0
+writtenNumbers (Refused n p) = numbers n p

@@ -1,13 +1,13 @@
 -- A label's text: 'a part of the chart or of the stand-in table, not a copy; that table, lent beside the chart, is the fixed texts `#0` to `#31`, end to end'.
 -- Assumes nothing.
-use Prim.Native.Nat.{ℕ, zero, suc, _+_, _-_}
-use mathlib.Core.Path.{_≡_, refl}
+use Prim.Native.Nat.{ℕ, zero, suc, _+_, _-_, _≤_}
+use mathlib.Core.Path.{_≡_}
 use mathlib.Core.Bool.{Bool, false, cond, _&&_}
 use mathlib.Core.List.{List, [], _∷_, _++_}
 use lib.Dec.{leb}
 use lib.ListN.{length, take, drop}
 use denote.Ref.{RefT}
-use Rattle.laws.specs.Bytes.{ascii, same}
+use Rattle.laws.specs.Bytes.{same}
 use Rattle.chart.specs.declared.Answer.the-variants.{Ready, Refused}
 use Rattle.grid.specs.Labelled.{Labelled, ready, refusal}
 use Rattle.path.specs.declared.label.Span.{Span}
@@ -27,6 +27,11 @@ pub data Place : Type 0 where
 abbrev pub partAt : Bool → ℕ → ℕ → ℕ → ℕ → Place
 partAt fixed a e m n = cond (leb a e && leb e (cond fixed n m)) (cond fixed (table a e) (chart a e)) (chart 0 0)
 
+-- the place lies within a chart of m bytes, or a table of n
+abbrev pub Within : ℕ → ℕ → Place → Type 0
+Within m n (chart a e) = (a ≤ e) × (e ≤ m)
+Within m n (table a e) = (a ≤ e) × (e ≤ n)
+
 -- r is the text at a place of the two slices
 abbrev pub IsAt : Place → RefT (List ℕ) → RefT (List ℕ) → RefT (List ℕ) → Type 0
 IsAt (chart a e) x y r = IsPart x a e r
@@ -45,10 +50,6 @@ standInsTo (suc n) = standInsTo n ++ standIn n
 -- `#0` to `#31`
 unfoldable pub standIns : List ℕ
 standIns = standInsTo 32
-
-standIns-are : standIns ≡ ascii "#0#1#2#3#4#5#6#7#8#9#10#11#12#13#14#15#16#17#18#19#20#21#22#23#24#25#26#27#28#29#30#31"
-unfolding standIns standInsTo digits
-standIns-are = refl
 
 -- where `#q` stands: after those before it
 abbrev pub standInSpan : ℕ → Span
@@ -76,6 +77,11 @@ placeIn (refusal number second) = chart 0 0
 abbrev pub labelPartOf : List ℕ → Labelled → Place
 labelPartOf t l = placeIn (tabled t l)
 
+-- `label_part`, where the chart s and the table t are lent: the part, which lies within one of them
+pub record IsLabelPart (s t : RefT (List ℕ)) (l : Labelled) (r : RefT (List ℕ)) : Type 0 where
+  pub is : IsAt (labelPartOf (t .now) l) s t r
+  pub within : Within (length (s .now)) (length (t .now)) (labelPartOf (t .now) l)
+
 -- the same part in numbers, for a caller that can't be handed a part: 'a part of the chart or of the stand-in table', where it begins there and how long it is;
 -- refused, 'the empty one at the chart's start'
 abbrev pub spanIn : Labelled → LabelSpan
@@ -94,3 +100,9 @@ labelSpanOf t l = spanIn (tabled t l)
 -- the place that a span names; of `labelSpanOf` it is `labelPartOf` (`span-part` in proofs/LabelCalls.antt)
 abbrev pub spanPlace : LabelSpan → Place
 spanPlace r = cond (r .fixed) (table (r .at) (r .at + r .len)) (chart (r .at) (r .at + r .len))
+
+-- `label_span`: the answer of `label_place`, and the part of `label_part` as a place, which lies within the chart s or the table t
+pub record IsLabelSpan (s t : List ℕ) (l : Labelled) (r : LabelSpan) : Type 0 where
+  pub answer : r .answer ≡ labelAnswerOf t l .answer
+  pub place : spanPlace r ≡ labelPartOf t l
+  pub within : Within (length s) (length t) (spanPlace r)

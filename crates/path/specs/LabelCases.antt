@@ -120,3 +120,8 @@ cases =
 all-hold : allOf holds cases ≡ true
 unfolding holds cases standIns standInsTo digits chartOf complete reached cutting graphed shapeOf each all round first weights triples chains order firstColumns heights firstMoves foldFrom average columns drawn sheetOf sheet sheetOfDag sheeted labelled
 all-hold = refl
+
+-- the stand-in table
+standIns-are : standIns ≡ ascii "#0#1#2#3#4#5#6#7#8#9#10#11#12#13#14#15#16#17#18#19#20#21#22#23#24#25#26#27#28#29#30#31"
+unfolding standIns standInsTo digits
+standIns-are = refl

@@ -1,8 +1,8 @@
 -- What is promised: a sheet's segments, path text written and read, SVG's grammar, labels.
 pub mod Halves
 pub mod Number
-pub mod Drawn
 pub mod Text
+pub mod Drawn
 pub mod Segments
 pub mod Strokes
 pub mod Profile
@@ -12,6 +12,7 @@ pub mod Writer
 pub mod Answers
 pub mod Svg
 pub mod Meaning
+pub mod Promises
 pub mod Label
 pub mod Cases
 pub mod Starred

@@ -80,16 +80,23 @@ pub data Apart (P : ℕ → Type 0) : List ℕ → Type 0 where
   byte : {b : ℕ} {r : List ℕ} → P b → Apart P (b ∷ r)
 
 -- a fraction with an exponent: multiplied, or divided
-abbrev pub scaled : Bool → Bool → ℕ → ℕ → ℕ → Value
-scaled m false v u e = record { minus = m; over = v * 10 ^ e; under = u }
-scaled m true v u e = record { minus = m; over = v; under = u * 10 ^ e }
+abbrev pub scaled : Bool → ℕ → ℕ → ℕ → Value
+scaled false v u e = record { minus = false; over = v * 10 ^ e; under = u }
+scaled true v u e = record { minus = false; over = v; under = u * 10 ^ e }
 
--- number: sign? integer, or sign? floating point (fraction exponent?, or digits exponent)
+-- nonnegative-number, which has no sign: integer, or floating point (fraction exponent?, or digits exponent)
+pub data Nonnegative : List ℕ → Value → List ℕ → Type 0 where
+  integer : {v k : ℕ} {s r : List ℕ} → Digits 0 s v k r → Apart NotInteger r → Nonnegative s (record { minus = false; over = v; under = 1 }) r
+  fraction : {v j : ℕ} {s r : List ℕ} → Fraction s v j r → Apart NotFraction r → Nonnegative s (record { minus = false; over = v; under = 10 ^ j }) r
+  fractionExponent : {n : Bool} {v j e : ℕ} {s t r : List ℕ} → Fraction s v j t → Exponent t n e r → Apart NotDigit r → Nonnegative s (scaled n v (10 ^ j) e) r
+  integerExponent : {n : Bool} {v k e : ℕ} {s t r : List ℕ} → Digits 0 s v k t → Exponent t n e r → Apart NotDigit r → Nonnegative s (scaled n v 1 e) r
+
+-- number: sign? nonnegative-number
+abbrev pub signed : Bool → Value → Value
+signed m v = record { minus = m; over = v .over; under = v .under }
+
 pub data Number : List ℕ → Value → List ℕ → Type 0 where
-  integer : {m : Bool} {v k : ℕ} {s t r : List ℕ} → Sign s m t → Digits 0 t v k r → Apart NotInteger r → Number s (record { minus = m; over = v; under = 1 }) r
-  fraction : {m : Bool} {v j : ℕ} {s t r : List ℕ} → Sign s m t → Fraction t v j r → Apart NotFraction r → Number s (record { minus = m; over = v; under = 10 ^ j }) r
-  fractionExponent : {m n : Bool} {v j e : ℕ} {s t u r : List ℕ} → Sign s m t → Fraction t v j u → Exponent u n e r → Apart NotDigit r → Number s (scaled m n v (10 ^ j) e) r
-  integerExponent : {m n : Bool} {v k e : ℕ} {s t u r : List ℕ} → Sign s m t → Digits 0 t v k u → Exponent u n e r → Apart NotDigit r → Number s (scaled m n v 1 e) r
+  number : {m : Bool} {v : Value} {s t r : List ℕ} → Sign s m t → Nonnegative t v r → Number s (signed m v) r
 
 -- pair: number comma-wsp? number
 pub data Pair : List ℕ → Value → Value → List ℕ → Type 0 where
@@ -141,7 +148,7 @@ pub data Flag : List ℕ → Bool → List ℕ → Type 0 where
 
 -- two nonnegative numbers, a number, two flags, a pair
 pub data ArcArgument (rel : Bool) : List ℕ → Command → List ℕ → Type 0 where
-  argument : {a b c x y : Value} {f g : Bool} {s t u v w i j k l m n r : List ℕ} → Number s a t → a .minus ≡ false → Between t u → Number u b v → b .minus ≡ false → Between v w → Number w c i → CommaWsp i j → Flag j f k → Between k l → Flag l g m → Between m n → Pair n x y r → ArcArgument rel s (arc rel a b c f g x y) r
+  argument : {a b c x y : Value} {f g : Bool} {s t u v w i j k l m n r : List ℕ} → Nonnegative s a t → Between t u → Nonnegative u b v → Between v w → Number w c i → CommaWsp i j → Flag j f k → Between k l → Flag l g m → Between m n → Pair n x y r → ArcArgument rel s (arc rel a b c f g x y) r
 
 -- moveto: `M` or `m`, wsp*, a pair; further pairs are linetos
 pub data MoveTo : List ℕ → List Command → List ℕ → Type 0 where

@@ -1,10 +1,9 @@
 // Document 01, module 9: the segments of a sheet, its whole text, a path text read and written again, and labels.
-// A sheet and a path text each give segments or a refusal (`sheetAnswer`, `read`); the promises say what of these is handed out or written.
+// A sheet and a path text each give segments or a refusal (`sheetAnswer`, `Judged`); the promises say what of these is handed out or written.
 ghost use mathlib.Core.Path.{_≡_};
-ghost use Rattle.path.specs.Reader.{read};
-ghost use Rattle.path.specs.Answers.{sheetAnswer, countOf, givenOf, writtenOf, leftOf};
+ghost use Rattle.path.specs.Promises.{IsSegment, IsWritten, IsCount, IsGiven, IsRewritten};
 ghost use Rattle.grid.specs.Labelled.{labelled, labelOutcomeOf};
-ghost use Rattle.path.specs.Label.{IsAt, tabled, labelAnswerOf, labelPartOf, labelSpanOf};
+ghost use Rattle.path.specs.Label.{tabled, labelAnswerOf, IsLabelPart, IsLabelSpan};
 use chart::Answer;
 use drawn::segment_of;
 use grid::LabelOutcome;
@@ -88,7 +87,7 @@ pub struct LabelSpan {
 
 // Segment k of a sheet: 14, then 15.
 pub fn sheet_segment(s: SheetRecord, k: usize) -> Given
-    ensures { λ r. ⌜ r ≡ givenOf k (sheetAnswer s) ⌝ }
+    ensures { λ r. ⌜ IsSegment s k r ⌝ }
 {
     if !sound(s) {
         return Given::Refused(14, 0);
@@ -101,8 +100,7 @@ pub fn sheet_segment(s: SheetRecord, k: usize) -> Given
 
 // The whole text of a sheet: 14, then 16 with the length needed; refused, nothing is written.
 pub fn write_sheet(s: SheetRecord, buf: &mut [u8]) -> Written
-    ensures { λ r. ⌜ r ≡ writtenOf (now (buf .entry)) (sheetAnswer s) ⌝ }
-    ensures { λ _. ⌜ now (buf .exit) ≡ leftOf (now (buf .entry)) (sheetAnswer s) ⌝ }
+    ensures { λ r. ⌜ IsWritten s (now (buf .entry)) r (now (buf .exit)) ⌝ }
 {
     if !sound(s) {
         return Written::Refused(14, 0);
@@ -117,7 +115,7 @@ pub fn write_sheet(s: SheetRecord, buf: &mut [u8]) -> Written
 
 // The count of segments of a path text: 17 to 19.
 pub fn text_count(text: &[u8]) -> Counted
-    ensures { λ r. ⌜ r ≡ countOf (read (now (text .entry))) ⌝ }
+    ensures { λ r. ⌜ IsCount (now (text .entry)) r ⌝ }
 {
     let m = pass_over(text, 0);
     let s = m.stand;
@@ -130,7 +128,7 @@ pub fn text_count(text: &[u8]) -> Counted
 
 // Segment k of a path text: 17 to 19, then 15.
 pub fn text_segment(text: &[u8], k: usize) -> Given
-    ensures { λ r. ⌜ r ≡ givenOf k (read (now (text .entry))) ⌝ }
+    ensures { λ r. ⌜ IsGiven (now (text .entry)) k r ⌝ }
 {
     let m = pass_over(text, k);
     let s = m.stand;
@@ -152,8 +150,7 @@ pub fn text_segment(text: &[u8], k: usize) -> Given
 
 // A path text read and written again: 17 to 19, then 16. A text that is read is the text of its segments, so its bytes are copied.
 pub fn rewrite(text: &[u8], buf: &mut [u8]) -> Written
-    ensures { λ r. ⌜ r ≡ writtenOf (now (buf .entry)) (read (now (text .entry))) ⌝ }
-    ensures { λ _. ⌜ now (buf .exit) ≡ leftOf (now (buf .entry)) (read (now (text .entry))) ⌝ }
+    ensures { λ r. ⌜ IsRewritten (now (text .entry)) (now (buf .entry)) r (now (buf .exit)) ⌝ }
 {
     let m = pass_over(text, 0);
     let s = m.stand;
@@ -227,7 +224,7 @@ pub fn label_part<'a>(
     k: usize,
     i: usize,
 ) -> &'a [u8]
-    ensures { λ r. ⌜ IsAt (labelPartOf (now (table .entry)) (labelled (now (chart .entry)) x y k i)) (chart .entry) (table .entry) r ⌝ }
+    ensures { λ r. ⌜ IsLabelPart (chart .entry) (table .entry) (labelled (now (chart .entry)) x y k i) r ⌝ }
 {
     let l = find_label(chart, x, y, table, k, i);
     let answer = l.answer;
@@ -249,7 +246,7 @@ pub fn label_part<'a>(
 
 // The same part as a place.
 pub fn label_span(chart: &[u8], x: u32, y: u32, table: &[u8], k: usize, i: usize) -> LabelSpan
-    ensures { λ r. ⌜ r ≡ labelSpanOf (now (table .entry)) (labelled (now (chart .entry)) x y k i) ⌝ }
+    ensures { λ r. ⌜ IsLabelSpan (now (chart .entry)) (now (table .entry)) (labelled (now (chart .entry)) x y k i) r ⌝ }
 {
     let l = find_label(chart, x, y, table, k, i);
     let answer = l.answer;

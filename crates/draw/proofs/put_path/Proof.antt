@@ -34,7 +34,7 @@ array-share-prefix-text c = search needs
 slice-aggregate-put-2 : tie.Need-slice-aggregate-put-2
 slice-aggregate-put-2 c =
     let w = c .before .before .before .before .before .before in
-    let e : length (w .write-sheet .last .1 .0) ≡ 65536 = ap length (w .write-sheet .ensures .1) ∙ left-long (w .before .before .large-buffer .result) (sheetAnswer (w .before .before .before .before .before .args .s)) ∙ sym (w .before .before .large-buffer .ensures) in
+    let e : length (w .write-sheet .last .1 .0) ≡ 65536 = ap length (w .write-sheet .ensures .bytes) ∙ left-long (w .before .before .large-buffer .result) (sheetAnswer (w .before .before .before .before .before .args .s)) ∙ sym (w .before .before .large-buffer .ensures) in
     sym (length-take-le _ _ (omega arith))
 
 put-requires-2 : tie.Need-put-requires-2

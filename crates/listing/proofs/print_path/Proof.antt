@@ -40,7 +40,7 @@ array-share-prefix-text c = search needs
 slice-aggregate-write-all-3 : tie.Need-slice-aggregate-write-all-3
 slice-aggregate-write-all-3 c =
     let w = c .before .before .before .before .before .before .before in
-    let e : length (w .write-sheet .last .1 .0) ≡ 65536 = ap length (w .write-sheet .ensures .1) ∙ left-long (w .before .before .large-buffer .result) (sheetAnswer (w .before .before .before .before .before .args .s)) ∙ sym (w .before .before .large-buffer .ensures) in
+    let e : length (w .write-sheet .last .1 .0) ≡ 65536 = ap length (w .write-sheet .ensures .bytes) ∙ left-long (w .before .before .large-buffer .result) (sheetAnswer (w .before .before .before .before .before .args .s)) ∙ sym (w .before .before .large-buffer .ensures) in
     sym (length-take-le _ _ (omega arith))
 
 write-all-requires-3 : tie.Need-write-all-requires-3

@@ -1,4 +1,5 @@
 -- `margalhosa_rewrite`: the answer of `path::rewrite`, and the buffer that it leaves. Assumes nothing.
+use Rattle.margalhosa.proofs.Results.{rewrite-is}
 use borrow.Author.Needs.{needs}
 use Rattle.margalhosa.proofs.margalhosa_rewrite.Statement.{statement}
 use Rattle.margalhosa.proofs.margalhosa_rewrite.Tie as tie
@@ -13,7 +14,7 @@ same-length : tie.Need-same-length
 same-length c = search needs
 
 returns : tie.Need-returns
-returns c = (rw (c .written .ensures, c .before .before .before .rewrite .ensures .0), c .before .before .before .rewrite .ensures .1)
+returns c = let w = c .before .before .before .rewrite in rewrite-is _ _ (w .result) _ (w .ensures) _ (c .written .ensures)
 
 pub margalhosa-rewrite-spec : {M : Type 1} → statement M
 margalhosa-rewrite-spec =

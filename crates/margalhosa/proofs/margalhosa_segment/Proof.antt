@@ -10,7 +10,7 @@ given-requires : tie.Need-given-requires
 given-requires c κs = search needs
 
 returns : tie.Need-returns
-returns c = rw (c .given .ensures, c .before .sheet-segment .ensures)
+returns c = record { given = c .before .sheet-segment .result; promised = c .before .sheet-segment .ensures; whole = c .given .ensures }
 
 pub margalhosa-segment-spec : {M : Type 1} → statement M
 margalhosa-segment-spec = tie.close (tie.spec sheet-segment-requires given-requires returns)

@@ -1,4 +1,5 @@
 -- `margalhosa_text`: the answer of `path::write_sheet`, and the buffer that it leaves. Assumes nothing.
+use Rattle.margalhosa.proofs.Results.{text-is}
 use borrow.Author.Needs.{needs}
 use Rattle.margalhosa.proofs.margalhosa_text.Statement.{statement}
 use Rattle.margalhosa.proofs.margalhosa_text.Tie as tie
@@ -13,7 +14,7 @@ same-length : tie.Need-same-length
 same-length c = search needs
 
 returns : tie.Need-returns
-returns c = (rw (c .written .ensures, c .before .before .before .write-sheet .ensures .0), c .before .before .before .write-sheet .ensures .1)
+returns c = let w = c .before .before .before .write-sheet in text-is _ _ (w .result) _ (w .ensures) _ (c .written .ensures)
 
 pub margalhosa-text-spec : {M : Type 1} → statement M
 margalhosa-text-spec =

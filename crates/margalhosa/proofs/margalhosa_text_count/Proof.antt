@@ -10,7 +10,7 @@ counted-requires : tie.Need-counted-requires
 counted-requires c κs = search needs
 
 returns : tie.Need-returns
-returns c = rw (c .counted .ensures, c .before .text-count .ensures)
+returns c = record { counted = c .before .text-count .result; promised = c .before .text-count .ensures; whole = c .counted .ensures }
 
 pub margalhosa-text-count-spec : {M : Type 1} → statement M
 margalhosa-text-count-spec = tie.close (tie.spec text-count-requires counted-requires returns)

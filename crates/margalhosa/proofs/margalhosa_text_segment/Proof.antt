@@ -10,7 +10,7 @@ given-requires : tie.Need-given-requires
 given-requires c κs = search needs
 
 returns : tie.Need-returns
-returns c = rw (c .given .ensures, c .before .text-segment .ensures)
+returns c = record { given = c .before .text-segment .result; promised = c .before .text-segment .ensures; whole = c .given .ensures }
 
 pub margalhosa-text-segment-spec : {M : Type 1} → statement M
 margalhosa-text-segment-spec = tie.close (tie.spec text-segment-requires given-requires returns)

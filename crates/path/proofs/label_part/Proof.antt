@@ -4,7 +4,7 @@ use mathlib.Core.Path.{subst}
 use lib.ListN.{length}
 use Rattle.grid.specs.Labelled.{labelled}
 use Rattle.path.specs.Label.{Place, IsAt, tabled}
-use Rattle.path.proofs.LabelCalls.{number-small, fixed-part, given-part, refused-part}
+use Rattle.path.proofs.LabelCalls.{number-small, fixed-part, given-part, refused-part, is-label-part}
 use borrow.Author.Needs.{needs}
 use Rattle.path.proofs.label_part.Statement.{statement}
 use Rattle.path.proofs.label_part.Tie as tie
@@ -30,7 +30,7 @@ returns c =
     let h = i .before .before .before .before in
     let a = h .before .before .before .args in
     let e = fixed-part (a .chart .now) (a .table .now) (a .x) (a .y) (a .k) (a .i) (h .find-label .result) (h .find-label .ensures) (i .before .enum-told .given .1) (i .if1 .taken) (c .before .stand-in .result) (c .before .stand-in .ensures) (length (a .chart .now)) in
-    subst (λ (z : Place). IsAt z (a .chart) (a .table) (c .part-of .result)) e (c .part-of .ensures)
+    is-label-part (a .chart) (a .table) (a .x) (a .y) (a .k) (a .i) _ (subst (λ (z : Place). IsAt z (a .chart) (a .table) (c .part-of .result)) e (c .part-of .ensures))
 
 cast-at : tie.Need-cast-at
 cast-at c = search needs
@@ -50,7 +50,7 @@ returns-2 c =
     let h = i .before .before .before .before in
     let a = h .before .before .before .args in
     let e = given-part (a .chart .now) (a .table .now) (a .x) (a .y) (a .k) (a .i) (h .find-label .result) (h .find-label .ensures) (i .before .enum-told .given .1) (i .if1 .left) (length (a .table .now)) in
-    subst (λ (z : Place). IsAt z (a .chart) (a .table) (c .part-of2 .result)) e (c .part-of2 .ensures)
+    is-label-part (a .chart) (a .table) (a .x) (a .y) (a .k) (a .i) _ (subst (λ (z : Place). IsAt z (a .chart) (a .table) (c .part-of2 .result)) e (c .part-of2 .ensures))
 
 enum-told-2 : tie.Need-enum-told-2
 enum-told-2 c = search needs
@@ -64,7 +64,7 @@ returns-3 c =
     let a = h .before .before .before .args in
     let q = c .before .enum-told2 .given in
     let e = refused-part (tabled (a .table .now) (labelled (a .chart .now) (a .x) (a .y) (a .k) (a .i))) (h .find-label .result) (q .0 .0) (q .0 .1 .0) (length (a .chart .now)) (length (a .table .now)) (h .find-label .ensures) (q .1) in
-    subst (λ (z : Place). IsAt z (a .chart) (a .table) (c .part-of3 .result)) e (c .part-of3 .ensures)
+    is-label-part (a .chart) (a .table) (a .x) (a .y) (a .k) (a .i) _ (subst (λ (z : Place). IsAt z (a .chart) (a .table) (c .part-of3 .result)) e (c .part-of3 .ensures))
 
 pub label-part-spec : {M : Type 1} → statement M
 label-part-spec =

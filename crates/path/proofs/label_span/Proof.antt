@@ -3,7 +3,7 @@
 use native.Mathlib.Omega.{arith}
 use Rattle.grid.specs.Labelled.{labelled}
 use Rattle.path.specs.Label.{tabled}
-use Rattle.path.proofs.LabelCalls.{number-small, span-fits, fixed-span, given-span, refused-span}
+use Rattle.path.proofs.LabelCalls.{number-small, span-fits, fixed-span, given-span, refused-span, is-label-span}
 use borrow.Author.Needs.{needs}
 use Rattle.path.proofs.label_span.Statement.{statement}
 use Rattle.path.proofs.label_span.Tie as tie
@@ -49,7 +49,7 @@ returns c =
     let i = c .before .before .before in
     let h = i .before .before .before .before in
     let a = h .before .before .before .args in
-    fixed-span (a .chart .now) (a .table .now) (a .x) (a .y) (a .k) (a .i) (h .find-label .result) (h .find-label .ensures) (i .before .enum-told .given .1) (i .if1 .taken) (c .before .before .stand-in .result) (c .before .before .stand-in .ensures)
+    is-label-span (a .chart .now) (a .table .now) (a .x) (a .y) (a .k) (a .i) _ (fixed-span (a .chart .now) (a .table .now) (a .x) (a .y) (a .k) (a .i) (h .find-label .result) (h .find-label .ensures) (i .before .enum-told .given .1) (i .if1 .taken) (c .before .before .stand-in .result) (c .before .before .stand-in .ensures))
 
 cast-t19 : tie.Need-cast-t19
 cast-t19 c = search needs
@@ -62,7 +62,7 @@ returns-2 c =
     let i = c .before .before in
     let h = i .before .before .before .before in
     let a = h .before .before .before .args in
-    given-span (a .chart .now) (a .table .now) (a .x) (a .y) (a .k) (a .i) (h .find-label .result) (h .find-label .ensures) (i .before .enum-told .given .1) (i .if1 .left)
+    is-label-span (a .chart .now) (a .table .now) (a .x) (a .y) (a .k) (a .i) _ (given-span (a .chart .now) (a .table .now) (a .x) (a .y) (a .k) (a .i) (h .find-label .result) (h .find-label .ensures) (i .before .enum-told .given .1) (i .if1 .left))
 
 enum-known-answer : tie.Need-enum-known-answer
 enum-known-answer c = search needs
@@ -72,7 +72,7 @@ returns-3 c =
     let h = c .before .before .before .before in
     let a = h .before .before .before .args in
     let q = c .before .answer .given in
-    refused-span (tabled (a .table .now) (labelled (a .chart .now) (a .x) (a .y) (a .k) (a .i))) (h .find-label .result) (q .0 .0) (q .0 .1 .0) (h .find-label .ensures) (q .1)
+    is-label-span (a .chart .now) (a .table .now) (a .x) (a .y) (a .k) (a .i) _ (refused-span (tabled (a .table .now) (labelled (a .chart .now) (a .x) (a .y) (a .k) (a .i))) (h .find-label .result) (q .0 .0) (q .0 .1 .0) (h .find-label .ensures) (q .1))
 
 pub label-span-spec : {M : Type 1} → statement M
 label-span-spec =

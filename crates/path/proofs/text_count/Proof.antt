@@ -1,5 +1,6 @@
 -- `text_count` meets its contract: by the verdict (`Texts`). Assumes nothing.
 use Rattle.path.proofs.Texts.{count-fine, count-refused}
+use Rattle.path.proofs.Promises.{is-count}
 use borrow.Author.Needs.{needs}
 use Rattle.path.proofs.text_count.Statement.{statement}
 use Rattle.path.proofs.text_count.Tie as tie
@@ -17,10 +18,10 @@ enum-known-v : tie.Need-enum-known-v
 enum-known-v c = search needs
 
 returns : tie.Need-returns
-returns c = count-fine 0 (c .before .before .before .before .before .before .args .text .now) (c .before .before .before .before .pass-over .result) (c .before .before .judge .result) (c .before .before .before .before .pass-over .ensures) (c .before .before .judge .ensures) (c .enum-told .given .1)
+returns c = is-count _ _ (count-fine 0 (c .before .before .before .before .before .before .args .text .now) (c .before .before .before .before .pass-over .result) (c .before .before .judge .result) (c .before .before .before .before .pass-over .ensures) (c .before .before .judge .ensures) (c .enum-told .given .1))
 
 returns-2 : tie.Need-returns-2
-returns-2 c = count-refused 0 (c .before .before .before .before .before .before .before .args .text .now) (c .before .before .before .before .before .pass-over .result) (c .before .before .before .judge .result) (c .before .before .before .before .before .pass-over .ensures) (c .before .before .before .judge .ensures) (c .before .v .given .0 .0) (c .before .v .given .0 .1 .0) (c .before .v .given .1)
+returns-2 c = is-count _ _ (count-refused 0 (c .before .before .before .before .before .before .before .args .text .now) (c .before .before .before .before .before .pass-over .result) (c .before .before .before .judge .result) (c .before .before .before .before .before .pass-over .ensures) (c .before .before .before .judge .ensures) (c .before .v .given .0 .0) (c .before .v .given .0 .1 .0) (c .before .v .given .1))
 
 pub text-count-spec : {M : Type 1} → statement M
 text-count-spec =

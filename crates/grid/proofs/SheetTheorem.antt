@@ -1,10 +1,9 @@
--- The box theorem of the definition's sheet, over lists: `BoxTheorem` has it of the record that `sheet` hands out.
+-- The box theorem of the definition's sheet, over lists, the cells apart: `BoxTheorem` has it of the record that `sheet` hands out.
 -- Assumes nothing.
 use Prim.Native.Nat.{ℕ, _+_, _*_, _≤_, _<_}
 use mathlib.Core.Path.{_≡_}
-use mathlib.Core.Logic.{_⊎_, _↔_}
-use mathlib.Core.Option.{Option, none, some}
-use mathlib.Core.List.{List, [], _∷_, map}
+use mathlib.Core.Logic.{_⊎_}
+use mathlib.Core.List.{List, [], map}
 use lib.ListN.{length, getD}
 use Rattle.graph.specs.Graph.{Line, Node, Graph, nodeAt}
 use Rattle.grid.specs.Lists.{largest, total}
@@ -17,10 +16,6 @@ noBox = record { column = 0; row = 0; x = 0; y = 0; width = 0; height = 0; texts
 -- box k of the sheet
 abbrev pub box : Sheet → ℕ → Box
 box s k = getD (s .boxes) k noBox
-
--- what the rows of cells show at column c and row r
-abbrev pub cell : Sheet → ℕ → ℕ → Option ℕ
-cell s c r = getD (getD (s .cells) r []) c none
 
 -- box k names column c and row r
 abbrev pub Names : Sheet → ℕ → ℕ → ℕ → Type 0
@@ -43,16 +38,10 @@ pub record SheetTheorem (n cuts : ℕ) (g : Graph) (s : Sheet) : Type 0 where
   -- boxes = nodes given + 2 times cuts; the sheet reports the cuts
   pub boxes : length (s .boxes) ≡ n + 2 * s .cuts
   pub reports : s .cuts ≡ cuts
-  -- the grid is rows of cells
-  pub rows : length (s .cells) ≡ s .rows
-  pub columns : (r : ℕ) → r < s .rows → length (getD (s .cells) r []) ≡ s .columns
-  -- each box is in exactly one grid cell
-  pub has-cell : (k : ℕ) → k < length (s .boxes) → (box s k .column < s .columns) × (box s k .row < s .rows) × (cell s (box s k .column) (box s k .row) ≡ some k)
-  pub no-other : (k c r : ℕ) → c < s .columns → r < s .rows → cell s c r ≡ some k → (k < length (s .boxes)) × Names s k c r
-  -- no cell has two
+  -- each box has a column and a row of the sheet
+  pub has-cell : (k : ℕ) → k < length (s .boxes) → (box s k .column < s .columns) × (box s k .row < s .rows)
+  -- no two have the same
   pub no-two : (i j c r : ℕ) → i < length (s .boxes) → j < length (s .boxes) → Names s i c r → Names s j c r → i ≡ j
-  -- a cell is empty exactly when no box has its column and row
-  pub empty : (c r : ℕ) → c < s .columns → r < s .rows → (cell s c r ≡ none) ↔ ((k : ℕ) → k < length (s .boxes) → Names s k c r → ⊥)
   -- any two boxes are at least 1,024 units apart across or 2,048 down
   pub distance : (i j : ℕ) → i < length (s .boxes) → j < length (s .boxes) → (i ≡ j → ⊥) → Across (box s i) (box s j) ⊎ Down (box s i) (box s j)
   -- each box is at least 128 inside all four edges of the sheet
