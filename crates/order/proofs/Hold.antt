@@ -1,18 +1,37 @@
--- The code's two tables hold the sums of a pair table: before the rounds, after one, and after both.
+-- The code's table holds the sums of a pair table after a round if it did before.
 -- Assumes nothing.
-use Prim.Native.Nat.{ℕ, zero, suc, _+_, _-_, _≤_, _<_}
+use Prim.Native.Nat.{ℕ, zero, suc, _+_, _-_, _*_, _≤_, _<_}
 use native.Mathlib.Omega.{arith}
+use mathlib.Core.Logic.{inl, inr}
 use mathlib.Core.Path.{_≡_, refl, ap, sym, _∙_}
 use mathlib.Core.Bool.{Bool, true, false, cond}
-use mathlib.Core.List.{List}
+use mathlib.Core.List.{List, [], _∷_}
 use lib.Dec.{ltb}
+use borrow.Author.Tests.{lt-ltb, le-ltb}
 use Rattle.laws.specs.Lists.{All}
-use Rattle.order.specs.Weights.{Table, stands, beforeOf, afterOf, round}
-use Rattle.order.specs.Sums.{Two, at, legOf, sumUp, gainOf, roundAt, rowsAfter}
-use Rattle.order.proofs.Tables.{valueOf, value-missing, before-value, after-value}
+use Rattle.laws.proofs.Tests.{less?}
+use Rattle.order.specs.Weights.{Table, of, stands, beforeOf, afterOf, round}
+use Rattle.order.specs.Sums.{at, sumsOf, legOf, sumUp, waysOf, roundAt, Hold}
+use Rattle.order.proofs.Tables.{valueOf, value-missing}
 use Rattle.order.proofs.Legs.{sumTo, sum-zero, leg}
-use Rattle.order.proofs.Rounds.{Fine, Flagged, fine-round, stands-sum, not-rising, Sum, Reads, before-reads, after-reads, gain, round-made, second}
-use Rattle.order.proofs.InPlace.{Long, rows, up-same}
+use Rattle.order.proofs.Rounds.{Fine, Flagged, fine-round, stands-sum, not-rising, Sum, Reads, gain, round-made, second}
+use Rattle.order.proofs.InPlace.{up-same}
+
+-- ---- both sums of a pair as one
+abbrev pub packed : Sum
+packed e = sumsOf (e .before) (e .after)
+
+pub packed-reads : Reads packed sumsOf
+packed-reads = record { grows = λ x y e. omega arith; fresh = λ a b x y flag. refl; reads = λ e. refl; adds = λ e f. omega arith }
+
+pub packs : (a b : ℕ) (t : Table) → valueOf packed a b t ≡ sumsOf (beforeOf a b t) (afterOf a b t)
+packs a b [] = refl
+packs a b (e ∷ es) = go (of a b e) (packs a b es)
+  where
+    go : (s : Bool) → valueOf packed a b es ≡ sumsOf (beforeOf a b es) (afterOf a b es) →
+        cond s (packed e) (valueOf packed a b es) ≡ sumsOf (cond s (e .before) (beforeOf a b es)) (cond s (e .after) (afterOf a b es))
+    go true h = refl
+    go false h = h
 
 -- ---- a sum over all nodes that is 0 but between a and c
 sum-range : (f : ℕ → ℕ) (a m : ℕ) → ((b : ℕ) → b ≤ a → f b ≡ 0) → sumTo (suc a + m) f ≡ sumUp f a m
@@ -28,88 +47,61 @@ sum-past f c (suc k) z =
     let e : c + suc k ≡ suc (c + k) = omega arith in
     ap (λ (j : ℕ). sumTo j f) e ∙ omega (arith, sum-past f c k z, z (c + k) (omega arith))
 
-sum-between : (f : ℕ → ℕ) (n a c : ℕ) → a < c → c ≤ n → ((b : ℕ) → b ≤ a → f b ≡ 0) → ((b : ℕ) → c ≤ b → f b ≡ 0) → sumTo n f ≡ sumUp f a (c - (a + 1))
+sum-between : (f : ℕ → ℕ) (n a c : ℕ) → a < c → c ≤ n → ((b : ℕ) → b ≤ a → f b ≡ 0) → ((b : ℕ) → c ≤ b → f b ≡ 0) → sumTo n f ≡ sumUp f a (c - suc a)
 sum-between f n a c l k p q =
     let e : n ≡ c + (n - c) = omega arith in
-    let d : c ≡ suc a + (c - (a + 1)) = omega arith in
-    ap (λ (j : ℕ). sumTo j f) e ∙ sum-past f c (n - c) q ∙ ap (λ (j : ℕ). sumTo j f) d ∙ sum-range f a (c - (a + 1)) p
+    let d : c ≡ suc a + (c - suc a) = omega arith in
+    ap (λ (j : ℕ). sumTo j f) e ∙ sum-past f c (n - c) q ∙ ap (λ (j : ℕ). sumTo j f) d ∙ sum-range f a (c - suc a) p
 
 cond-zero : (s : Bool) → _≡_ {A = ℕ} (cond s 0 0) 0
 cond-zero true = refl
 cond-zero false = refl
 
--- ---- ws has the sums w of the table t, us the others
-pub record Side (n : ℕ) (t : Table) (w : Sum) (ws us : List ℕ) : Type 0 where
-  pub value : (a b : ℕ) → a < b → b < n → at ws a b ≡ valueOf w a b t
-  pub on : (a b : ℕ) → a < b → b < n → ltb 0 (at ws a b + at us a b) ≡ stands a b t
+-- what a round adds to a pair: the ways over the nodes between
+pub gain-up : (n : ℕ) (t : Table) (f : Fine n t) (w : Sum) (w' : ℕ → ℕ → ℕ) (r : Reads w w') (a c : ℕ) → a < c → c < n → gain w w' r n t f a c ≡ sumUp (leg w (r .adds) t t a c) a (c - suc a)
+gain-up n t f w w' r a c l k =
+    sum-between (leg w (r .adds) t t a c) n a c l (omega arith)
+    (λ b i. rw (not-rising n a b t (f .each) i)) (λ b i. rw (not-rising n b c t (f .each) i) (cond-zero (stands a b t)))
 
-module _ (n : ℕ) (t : Table) (f : Fine n t) (w : Sum) (w' : ℕ → ℕ → ℕ) (r : Reads w w') (ws us : List ℕ) (s : Side n t w ws us) (a c : ℕ) (l : a < c) (k : c < n) where
-  leg-is : (b : ℕ) → a < b → b < c → legOf ws us a c b ≡ leg w (r .adds) t t a c b
-  leg-is b i j = rw (s .on a b i (omega arith), s .on b c j k, s .value a b i (omega arith), s .value b c j k)
+some-same : (x y : ℕ) → ltb 0 (x + 65536 * y) ≡ ltb 0 (x + y)
+some-same x y =
+    elim (less? 0 (x + y)) [
+      | inl h ↦ lt-ltb 0 (x + 65536 * y) (omega arith) ∙ sym (lt-ltb 0 (x + y) h)
+      | inr h ↦ le-ltb 0 (x + 65536 * y) (omega arith) ∙ sym (le-ltb 0 (x + y) h)
+    ]
 
-  pub gain-is : gainOf ws us a c ≡ gain w w' r n t f a c
-  gain-is =
-      up-same (legOf ws us a c) (leg w (r .adds) t t a c) a (c - (a + 1)) (λ i h. leg-is (suc a + i) (omega arith) (omega arith))
-      ∙ sym (sum-between (leg w (r .adds) t t a c) n a c l (omega arith)
-      (λ b i. rw (not-rising n a b t (f .each) i)) (λ b i. rw (not-rising n b c t (f .each) i) (cond-zero (stands a b t))))
+module _ (n : ℕ) (t : Table) (f : Fine n t) (s : List ℕ) (h : Hold n t s) where
+  value : (a b : ℕ) → a < b → b < n → at s a b ≡ valueOf packed a b t
+  value a b i j = h a b i j ∙ sym (packs a b t)
 
-  pub made-is : All Flagged t → roundAt true ws us a c ≡ valueOf w a c (round t)
-  made-is g = rw (s .value a c l k, gain-is) (sym (round-made w w' r n t f g a c))
+  on : (a b : ℕ) → a < b → b < n → ltb 0 (at s a b) ≡ stands a b t
+  on a b i j = ap (ltb 0) (h a b i j) ∙ some-same (beforeOf a b t) (afterOf a b t) ∙ sym (stands-sum n a b t (f .each))
 
-  stood-pick : (b : Bool) → stands a c t ≡ b → cond b (valueOf w a c t + gain w w' r n t f a c) (valueOf w a c t) ≡ cond b (valueOf w a c t + gain w w' r n t f a c) 0
-  stood-pick true e = refl
-  stood-pick false e = value-missing w a c t e
+  module _ (a c : ℕ) (l : a < c) (k : c < n) where
+    leg-is : (b : ℕ) → a < b → b < c → legOf s a c b ≡ leg packed (packed-reads .adds) t t a c b
+    leg-is b i j = rw (on a b i (omega arith), on b c j k, value a b i (omega arith), value b c j k)
 
-  pub stood-is : roundAt false ws us a c ≡ cond (stands a c t) (valueOf w a c t + gain w w' r n t f a c) 0
-  stood-is = rw (s .on a c l k, s .value a c l k, gain-is) (stood-pick (stands a c t) refl)
+    ways-are : waysOf s a c a ≡ gain packed sumsOf packed-reads n t f a c
+    ways-are =
+        up-same (legOf s a c) (leg packed (packed-reads .adds) t t a c) a (c - suc a) (λ i h. leg-is (suc a + i) (omega arith) (omega arith))
+        ∙ sym (gain-up n t f packed sumsOf packed-reads a c l k)
 
--- ---- both tables
-pub record Hold (n : ℕ) (t : Table) (s : Two) : Type 0 where
-  pub long : Long s
-  pub before : (a b : ℕ) → a < b → b < n → at (s .befores) a b ≡ beforeOf a b t
-  pub after : (a b : ℕ) → a < b → b < n → at (s .afters) a b ≡ afterOf a b t
+    -- round 1
+    pub made-is : All Flagged t → roundAt true s a c ≡ sumsOf (beforeOf a c (round t)) (afterOf a c (round t))
+    made-is g = rw (value a c l k, ways-are) (sym (round-made packed sumsOf packed-reads n t f g a c)) ∙ packs a c (round t)
 
-module _ (n : ℕ) (few : n ≤ 48) (t : Table) (f : Fine n t) (s : Two) (h : Hold n t s) where
-  pub before-side : Side n t (λ e. e .before) (s .befores) (s .afters)
-  before-side =
-      record {
-        value = λ a b l k. h .before a b l k ∙ before-value a b t;
-        on = λ a b l k. rw (h .before a b l k, h .after a b l k) (sym (stands-sum n a b t (f .each)));
-      }
+    abbrev gains : ℕ
+    gains = gain packed sumsOf packed-reads n t f a c
 
-  pub after-side : Side n t (λ e. e .after) (s .afters) (s .befores)
-  after-side =
-      record {
-        value = λ a b l k. h .after a b l k ∙ after-value a b t;
-        on = λ a b l k.
-            let e : afterOf a b t + beforeOf a b t ≡ beforeOf a b t + afterOf a b t = omega arith in
-            rw (h .before a b l k, h .after a b l k) (ap (ltb 0) e ∙ sym (stands-sum n a b t (f .each)));
-      }
+    stood : (b : Bool) → stands a c t ≡ b → valueOf packed a c t + cond b gains 0 ≡ cond b (valueOf packed a c t + gains) 0
+    stood true e = refl
+    stood false e = let z : valueOf packed a c t ≡ 0 = value-missing packed a c t e in omega arith
 
-  -- round 1
-  pub hold-made : All Flagged t → Hold n (round t) (rowsAfter true n s n)
-  hold-made g =
-      let w = rows true n few s (h .long) n (omega arith) in
-      record {
-        long = w .long;
-        before = λ a b l k. w .did a b l k (omega arith) .before ∙ made-is n t f (λ e. e .before) (λ x y. x) before-reads (s .befores) (s .afters) before-side a b l k g ∙ sym (before-value a b (round t));
-        after = λ a b l k. w .did a b l k (omega arith) .after ∙ made-is n t f (λ e. e .after) (λ x y. y) after-reads (s .afters) (s .befores) after-side a b l k g ∙ sym (after-value a b (round t));
-      }
+    pub stood-is : roundAt false s a c ≡ cond (stands a c t) (valueOf packed a c t + gains) 0
+    stood-is = rw (on a c l k, value a c l k, ways-are) (stood (stands a c t) refl)
 
 -- round 2, on a table after round 1
-pub hold-stood : (n : ℕ) → n ≤ 48 → (t : Table) (f : Fine n t) → All Flagged t → (s : Two) → Hold n (round t) s → Hold n (round (round t)) (rowsAfter false n s n)
-hold-stood n few t f g s h =
-    let u = round t in
-    let fu = fine-round n t f in
-    let w = rows false n few s (h .long) n (omega arith) in
-    record {
-      long = w .long;
-      before = λ a b l k.
-          w .did a b l k (omega arith) .before
-          ∙ stood-is n (round t) (fine-round n t f) (λ e. e .before) (λ x y. x) before-reads (s .befores) (s .afters) (before-side n few (round t) (fine-round n t f) s h) a b l k
-          ∙ sym (second n t f g (λ e. e .before) (λ x y. x) before-reads a b) ∙ sym (before-value a b (round (round t)));
-      after = λ a b l k.
-          w .did a b l k (omega arith) .after
-          ∙ stood-is n (round t) (fine-round n t f) (λ e. e .after) (λ x y. y) after-reads (s .afters) (s .befores) (after-side n few (round t) (fine-round n t f) s h) a b l k
-          ∙ sym (second n t f g (λ e. e .after) (λ x y. y) after-reads a b) ∙ sym (after-value a b (round (round t)));
-    }
+pub stood-again : (n : ℕ) (t : Table) (f : Fine n t) → All Flagged t → (s : List ℕ) → Hold n (round t) s → (a c : ℕ) → a < c → c < n →
+    roundAt false s a c ≡ sumsOf (beforeOf a c (round (round t))) (afterOf a c (round (round t)))
+stood-again n t f g s h a c l k =
+    stood-is n (round t) (fine-round n t f) s h a c l k ∙ sym (second n t f g packed sumsOf packed-reads a c) ∙ packs a c (round (round t))

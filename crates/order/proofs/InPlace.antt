@@ -1,191 +1,232 @@
--- A round in place: each pair reads only pairs that the round has not changed yet, so that every sum is read as it was when the round began.
+-- A round in place: each way reads only pairs that the round has not changed yet, so that every sum is read as it was when the round began.
 -- Assumes nothing.
 use Prim.Native.Nat.{ℕ, zero, suc, _+_, _-_, _≤_, _<_}
 use native.Mathlib.Omega.{arith}
-use mathlib.Core.Logic.{_⊎_, inl, inr}
-use mathlib.Core.Path.{_≡_, refl, _∙_}
-use mathlib.Core.Bool.{Bool}
+use mathlib.Core.Logic.{inl, inr}
+use mathlib.Core.Path.{_≡_, refl, ap, sym, _∙_}
+use mathlib.Core.Bool.{Bool, true, false, cond, _||_}
 use mathlib.Core.List.{List}
-use lib.ListN.{length, length-set}
-use lib.Seq.{getD-set-same, getD-set-other}
-use Rattle.laws.proofs.Tests.{same?}
-use Rattle.order.specs.Sums.{Two, pairAt, at, legOf, sumUp, gainOf, roundAt, pairStep, rowAfter, rowsAfter, Fits16, RoundFits}
+use lib.Dec.{ltb}
+use lib.ListN.{length, getD, set, length-set}
+use lib.Seq.{getD-set-same, getD-set-other, set-getD}
+use borrow.Author.Tests.{lt-ltb, le-ltb, ltb-true, ltb-false}
+use Rattle.laws.proofs.Tests.{less?, same?}
+use Rattle.order.specs.Sums.{pairAt, at, raised, legOf, sumUp, waysOf, wayOf, partAt, roundAt, Over, Row, Rows, OverFits, RowFits, RoundFits}
 use Rattle.order.proofs.Triangle.{pair-same, pair-below}
 
+-- ---- sums
 pub up-same : (f g : ℕ → ℕ) (a m : ℕ) → ((i : ℕ) → i < m → f (suc a + i) ≡ g (suc a + i)) → sumUp f a m ≡ sumUp g a m
 unfolding sumUp
 up-same f g a zero h = refl
 up-same f g a (suc m) h = cc (up-same f g a m (λ i l. h i (omega arith)), h m (omega arith))
 
--- both tables have the same for the pair of x and y; the first have what a round makes of the second
-pub record Spot (r t : Two) (x y : ℕ) : Type 0 where
-  pub before : at (r .befores) x y ≡ at (t .befores) x y
-  pub after : at (r .afters) x y ≡ at (t .afters) x y
+up-first : (f : ℕ → ℕ) (a m : ℕ) → sumUp f a (suc m) ≡ f (suc a) + sumUp f (suc a) m
+unfolding sumUp
+up-first f a zero = let e : f (suc a + 0) ≡ f (suc a) = let z : suc a + 0 ≡ suc a = omega arith in ap f z in omega arith
+up-first f a (suc m) =
+    let e : f (suc a + suc m) ≡ f (suc (suc a) + m) = let z : suc a + suc m ≡ suc (suc a) + m = omega arith in ap f z in
+    omega (arith, up-first f a m, e)
 
-pub record Did (make : Bool) (r t : Two) (x y : ℕ) : Type 0 where
-  pub before : at (r .befores) x y ≡ roundAt make (t .befores) (t .afters) x y
-  pub after : at (r .afters) x y ≡ roundAt make (t .afters) (t .befores) x y
+up-none : (f : ℕ → ℕ) (a : ℕ) → sumUp f a 0 ≡ 0
+unfolding sumUp
+up-none f a = refl
 
-spot-trans : (r s t : Two) (x y : ℕ) → Spot r s x y → Spot s t x y → Spot r t x y
-spot-trans r s t x y p q = record { before = p .before ∙ q .before; after = p .after ∙ q .after }
+none : (b : Bool) → _≡_ {A = ℕ} (cond b 0 0) 0
+none true = refl
+none false = refl
 
-spot-did : (make : Bool) (r s t : Two) (x y : ℕ) → Spot r s x y → Did make s t x y → Did make r t x y
-spot-did make r s t x y p q = record { before = p .before ∙ q .before; after = p .after ∙ q .after }
+-- ---- the ways over nodes after k
+module _ (make : Bool) (l : List ℕ) (a c : ℕ) where
+  part-none : (k : ℕ) → c ≤ suc k → partAt make l a c k ≡ at l a c
+  part-none k h =
+      let e : c - suc k ≡ 0 = omega arith in
+      let z : waysOf l a c k ≡ 0 = ap (sumUp (legOf l a c) k) e ∙ up-none (legOf l a c) k in
+      rw (z, none (make || ltb 0 (at l a c))) (omega arith)
 
--- what a round makes of the pair of a and c depends on the pairs of a with nodes to c, and of c with nodes after a
-agree : (make : Bool) (ws us vs zs : List ℕ) (a c : ℕ) → a < c →
-    ((b : ℕ) → a < b → b ≤ c → (at ws a b ≡ at vs a b) × (at us a b ≡ at zs a b)) → ((b : ℕ) → a < b → b < c → (at ws b c ≡ at vs b c) × (at us b c ≡ at zs b c)) →
-    roundAt make ws us a c ≡ roundAt make vs zs a c
-agree make ws us vs zs a c l p q =
-    let e = p c l (omega arith) in
-    let g : gainOf ws us a c ≡ gainOf vs zs a c =
-    up-same (legOf ws us a c) (legOf vs zs a c) a (c - (a + 1))
-    (λ i h.
-    let s = p (suc a + i) (omega arith) (omega arith) in
-    let t = q (suc a + i) (omega arith) (omega arith) in
-    rw (s .0, s .1, t .0, t .1)) in
-    rw (e .0, e .1, g)
+  ways-next : (k : ℕ) → suc k < c → waysOf l a c k ≡ legOf l a c (suc k) + waysOf l a c (suc k)
+  ways-next k h =
+      let e : c - suc k ≡ suc (c - suc (suc k)) = omega arith in
+      ap (sumUp (legOf l a c) k) e ∙ up-first (legOf l a c) k (c - suc (suc k))
 
-module _ (make : Bool) (r t : Two) (a c : ℕ) (l : a < c) (p : (b : ℕ) → a < b → b ≤ c → Spot r t a b) (q : (b : ℕ) → a < b → b < c → Spot r t b c) where
-  pub agree-before : roundAt make (r .befores) (r .afters) a c ≡ roundAt make (t .befores) (t .afters) a c
-  agree-before = agree make (r .befores) (r .afters) (t .befores) (t .afters) a c l (λ b i j. (p b i j .before, p b i j .after)) (λ b i j. (q b i j .before, q b i j .after))
+  part-next : (k : ℕ) → suc k < c → partAt make l a c k ≡ partAt make l a c (suc k) + wayOf make l a c (suc k)
+  part-next k h = go (make || ltb 0 (at l a c)) (ways-next k h)
+    where
+      go : (b : Bool) → waysOf l a c k ≡ legOf l a c (suc k) + waysOf l a c (suc k) →
+          at l a c + cond b (waysOf l a c k) 0 ≡ at l a c + cond b (waysOf l a c (suc k)) 0 + cond b (legOf l a c (suc k)) 0
+      go true e = omega arith
+      go false e = omega arith
 
-  pub agree-after : roundAt make (r .afters) (r .befores) a c ≡ roundAt make (t .afters) (t .befores) a c
-  agree-after = agree make (r .afters) (r .befores) (t .afters) (t .befores) a c l (λ b i j. (p b i j .after, p b i j .before)) (λ b i j. (q b i j .after, q b i j .before))
+  part-fall : (k : ℕ) → partAt make l a c (suc k) ≤ partAt make l a c k
+  part-fall k =
+      elim (less? (suc k) c) [
+        | inl h ↦ omega (arith, part-next k h)
+        | inr h ↦ omega (arith, part-none k h, part-none (suc k) (omega arith))
+      ]
 
-pub record Long (t : Two) : Type 0 where
-  pub befores : length (t .befores) ≡ 1128
-  pub afters : length (t .afters) ≡ 1128
+  part-from : (m : ℕ) → partAt make l a c (a + m) ≤ roundAt make l a c
+  part-from zero = let e : a + 0 ≡ a = omega arith in rw e (omega arith)
+  part-from (suc m) =
+      let e : a + suc m ≡ suc (a + m) = omega arith in
+      rw e (omega (arith, part-fall (a + m), part-from m))
 
--- ---- one pair
-module _ (make : Bool) (r : Two) (a c : ℕ) (l : a < c) (k : c < 48) (g : Long r) where
-  step-long : Long (pairStep make r a c)
-  step-long = record { befores = length-set (r .befores) (pairAt a c) _ ∙ g .befores; afters = length-set (r .afters) (pairAt a c) _ ∙ g .afters }
+  part-most : (k : ℕ) → a ≤ k → partAt make l a c k ≤ roundAt make l a c
+  part-most k h = let e : a + (k - a) ≡ k = omega arith in rw e at (part-from (k - a))
 
-  step-same : Did make (pairStep make r a c) r a c
-  step-same =
+-- ---- nothing is added yet, or nothing is to be added
+pub row-start : (make : Bool) (n a k : ℕ) (t : List ℕ) → n ≤ suc k → Row make n a k t t
+row-start make n a k t h = record { long = refl; did = λ c i j. sym (part-none make t a c k (omega arith)); same = λ x y i j o. refl }
+
+pub over-start : (make : Bool) (c a b : ℕ) (t : List ℕ) → c ≤ suc b → Over make c a b t t
+over-start make c a b t h = record { long = refl; more = λ y i j. absurd (omega arith); same = λ x y i j o. refl }
+
+-- where the pair of a and b does not stand, no way leads over b
+pub over-none : (make : Bool) (n a b : ℕ) (t : List ℕ) → at t a b ≡ 0 → Over make n a b t t
+over-none make n a b t e =
+    record {
+      long = refl;
+      more = λ c i j. let z : wayOf make t a c b ≡ 0 = rw (e, none (make || ltb 0 (at t a c))) in omega arith;
+      same = λ x y i j o. refl;
+    }
+
+pub rows-start : (make : Bool) (n : ℕ) (t : List ℕ) → Rows make n 0 t t
+rows-start make n t = record { long = refl; did = λ x y i j k. absurd (omega arith); same = λ x y i j k. refl }
+
+-- ---- one way more: what is known when the code has reached c. p and q are the places of the pairs (a, c) and (b, c), x is (a, b)'s number.
+pub record Going (make : Bool) (c a b p q x : ℕ) (t r : List ℕ) : Type 0 where
+  pub rising : a < b
+  pub next : b < c
+  pub below : c < 48
+  pub long : length r ≡ 1128
+  pub over : Over make c a b t r
+  pub here : p ≡ pairAt a c
+  pub there : q ≡ pairAt b c
+  pub first : x ≡ at t a b
+  pub some : 0 < at t a b
+
+module _ {make : Bool} {c a b p q x : ℕ} {t r : List ℕ} (w : Going make c a b p q x t r) where
+  last-same : at r a c ≡ at t a c
+  last-same = w .over .same a c (omega (arith, w .rising, w .next)) (w .below) (λ e. omega (arith, e .2))
+
+  next-same : at r b c ≡ at t b c
+  next-same = w .over .same b c (w .next) (w .below) (λ e. omega (arith, e .0, w .rising))
+
+  adds : 0 < getD r q 0 → (make || ltb 0 (getD r p 0)) ≡ true → wayOf make t a c b ≡ x + getD r q 0
+  adds y s =
+      let part : (make || ltb 0 (at t a c)) ≡ true = rw (← last-same, ← w .here) s in
+      let stands : 0 < at t b c = rw (w .there, next-same) at y in
+      rw (part, lt-ltb 0 (at t a b) (w .some), lt-ltb 0 (at t b c) stands, w .first, w .there, next-same)
+
+  pub over-sum : 0 < getD r q 0 → (make || ltb 0 (getD r p 0)) ≡ true → getD r p 0 + (x + getD r q 0) ≡ at t a c + wayOf make t a c b
+  over-sum y s = let z : getD r p 0 ≡ at t a c = rw (w .here) last-same in omega (arith, adds y s)
+
+  pub over-stores : 0 < getD r q 0 → (make || ltb 0 (getD r p 0)) ≡ true → set r p (getD r p 0 + (x + getD r q 0)) ≡ raised r a c (wayOf make t a c b)
+  over-stores y s = rw (adds y s, w .here)
+
+  keep : wayOf make t a c b ≡ 0 → r ≡ raised r a c (wayOf make t a c b)
+  keep e = let d : at r a c ≡ at r a c + wayOf make t a c b = omega arith in sym (set-getD r (pairAt a c) 0) ∙ ap (set r (pairAt a c)) d
+
+  pub over-out : (make || ltb 0 (getD r p 0)) ≡ false → r ≡ raised r a c (wayOf make t a c b)
+  over-out s = let part : (make || ltb 0 (at t a c)) ≡ false = rw (← last-same, ← w .here) s in keep (rw part)
+
+  pub over-missing : getD r q 0 ≤ 0 → r ≡ raised r a c (wayOf make t a c b)
+  over-missing y =
+      let missing : at t b c ≤ 0 = rw (w .there, next-same) at y in
+      keep (rw (le-ltb 0 (at t b c) missing, none (ltb 0 (at t a b)), none (make || ltb 0 (at t a c))))
+
+  pub over-step : Over make (suc c) a b t (raised r a c (wayOf make t a c b))
+  over-step =
+      let i : a < c = omega (arith, w .rising, w .next) in
       record {
-        before = getD-set-same (r .befores) (pairAt a c) (roundAt make (r .befores) (r .afters) a c) 0 (omega (arith, pair-below a c l k, g .befores));
-        after = getD-set-same (r .afters) (pairAt a c) (roundAt make (r .afters) (r .befores) a c) 0 (omega (arith, pair-below a c l k, g .afters));
-      }
-
-  step-other : (x y : ℕ) → x < y → ((x ≡ a) × (y ≡ c) → ⊥) → Spot (pairStep make r a c) r x y
-  step-other x y h o =
-      record {
-        before = getD-set-other (r .befores) (pairAt a c) (pairAt x y) (roundAt make (r .befores) (r .afters) a c) 0 (λ e. o (pair-same x y a c h l e));
-        after = getD-set-other (r .afters) (pairAt a c) (pairAt x y) (roundAt make (r .afters) (r .befores) a c) 0 (λ e. o (pair-same x y a c h l e));
-      }
-
--- ---- a row: m pairs of a, the last of n first
-pub record Row (make : Bool) (n a m : ℕ) (r t : Two) : Type 0 where
-  pub long : Long r
-  pub same : (x y : ℕ) → x < y → y < n → ((x ≡ a → ⊥) ⊎ (y < n - m)) → Spot r t x y
-  pub did : (y : ℕ) → a < y → y < n → n - m ≤ y → Did make r t a y
-
-module _ (make : Bool) (n a : ℕ) (few : n ≤ 48) (t : Two) where
-  -- the next pair reads what the row has not changed
-  module _ (m : ℕ) (l : m < n - suc a) (r : Two) (w : Row make n a m r t) where
-    abbrev c : ℕ
-    c = n - suc m
-
-    row-p : (b : ℕ) → a < b → b ≤ c → Spot r t a b
-    row-p b i j = w .same a b i (omega arith) (inr (omega arith))
-
-    row-q : (b : ℕ) → a < b → b < c → Spot r t b c
-    row-q b i j = w .same b c j (omega arith) (inl (λ e. omega arith))
-
-    pub row-before : roundAt make (r .befores) (r .afters) a c ≡ roundAt make (t .befores) (t .afters) a c
-    row-before = agree-before make r t a c (omega arith) row-p row-q
-
-    pub row-after : roundAt make (r .afters) (r .befores) a c ≡ roundAt make (t .afters) (t .befores) a c
-    row-after = agree-after make r t a c (omega arith) row-p row-q
-
-    row-did : Did make (pairStep make r a c) t a c
-    row-did =
-        let s = step-same make r a c (omega arith) (omega arith) (w .long) in
-        record { before = s .before ∙ row-before; after = s .after ∙ row-after }
-
-    row-step : Row make n a (suc m) (pairStep make r a c) t
-    row-step =
-        record {
-          long = step-long make r a c (omega arith) (omega arith) (w .long);
-          same = λ x y h k o.
-              spot-trans (pairStep make r a c) r t x y
-              (step-other make r a c (omega arith) (omega arith) (w .long) x y h (λ e. elim o [ inl p ↦ p (e .0) | inr q ↦ omega (arith, e .1) ]))
-              (w .same x y h k (elim o [ inl p ↦ inl p | inr q ↦ inr (omega arith) ]));
-          did = λ y h k i. elim (same? y c) [
-            | inl e ↦ rw e row-did
-            | inr o ↦
-                spot-did make (pairStep make r a c) r t a y (step-other make r a c (omega arith) (omega arith) (w .long) a y h (λ e. o (e .1)))
-                (w .did y h k (later y c m n o i (omega arith)))
-          ];
-        }
-      where
-        later : (y c m n : ℕ) → (y ≡ c → ⊥) → n - suc m ≤ y → c ≡ n - suc m → n - m ≤ y
-        later y c m n o i e = omega arith
-
-  pub row : Long t → (m : ℕ) → m ≤ n - suc a → Row make n a m (rowAfter make n a t m) t
-  unfolding rowAfter
-  row g zero l = record { long = g; same = λ x y h k o. record { before = refl; after = refl }; did = λ y h k i. absurd (omega arith) }
-  row g (suc m) l = row-step m l (rowAfter make n a t m) (row g m (omega arith))
-
--- ---- the rows of the first a nodes
-pub record Rows (make : Bool) (n a : ℕ) (r t : Two) : Type 0 where
-  pub long : Long r
-  pub same : (x y : ℕ) → x < y → y < n → a ≤ x → Spot r t x y
-  pub did : (x y : ℕ) → x < y → y < n → x < a → Did make r t x y
-
-module _ (make : Bool) (n : ℕ) (few : n ≤ 48) (t : Two) where
-  rows-step : (a : ℕ) → a < n → (r : Two) → Rows make n a r t → Rows make n (suc a) (rowAfter make n a r (n - suc a)) t
-  rows-step a l r w =
-      let s = rowAfter make n a r (n - suc a) in
-      let v = row make n a few r (w .long) (n - suc a) (omega arith) in
-      record {
-        long = v .long;
-        same = λ x y h k i. spot-trans s r t x y (v .same x y h k (inl (λ e. omega arith))) (w .same x y h k (omega arith));
-        did = λ x y h k i. elim (same? x a) [
+        long = length-set r (pairAt a c) _ ∙ w .over .long;
+        more = λ y l m. elim (same? y c) [
           | inl e ↦
-              let u : a < y = omega arith in
-              let d = v .did y u k (omega arith) in
               rw e
-              (record {
-                before = d .before ∙ agree-before make r t a y u (λ b p q. w .same a b p (omega arith) (omega arith)) (λ b p q. w .same b y q k (omega arith));
-                after = d .after ∙ agree-after make r t a y u (λ b p q. w .same a b p (omega arith) (omega arith)) (λ b p q. w .same b y q k (omega arith));
-              })
-          | inr o ↦ spot-did make s r t x y (v .same x y h k (inl o)) (w .did x y h k (earlier x a o i))
+              (getD-set-same r (pairAt a c) (at r a c + wayOf make t a c b) 0 (omega (arith, pair-below a c i (w .below), w .long)) ∙ ap (λ (v : ℕ). v + wayOf make t a c b) last-same)
+          | inr o ↦
+              getD-set-other r (pairAt a c) (pairAt a y) (at r a c + wayOf make t a c b) 0
+              (λ e. o (pair-same a y a c (omega (arith, w .rising)) (omega (arith, w .below)) i (w .below) e .1))
+              ∙ w .over .more y l (less y c o m)
         ];
+        same = λ x y l u o.
+            getD-set-other r (pairAt a c) (pairAt x y) (at r a c + wayOf make t a c b) 0
+            (λ e. let q = pair-same x y a c l u i (w .below) e in o (q .0, omega (arith, q .1, w .next), omega (arith, q .1)))
+            ∙ w .over .same x y l u (λ e. o (e .0, e .1, omega (arith, e .2)));
+      }
+    where
+      less : (y c : ℕ) → (y ≡ c → ⊥) → y < suc c → y < c
+      less y c o m = omega arith
+
+-- ---- a row: the nodes between fall
+stays : (make : Bool) (v w r : ℕ) → r ≡ v + cond (make || ltb 0 v) w 0 → (make || ltb 0 r) ≡ (make || ltb 0 v)
+stays true v w r e = refl
+stays false v w r e = go (ltb 0 v) refl e
+  where
+    go : (s : Bool) → ltb 0 v ≡ s → r ≡ v + cond s w 0 → ltb 0 r ≡ s
+    go true k h = lt-ltb 0 r (omega (arith, ltb-true 0 v k))
+    go false k h = le-ltb 0 r (omega (arith, ltb-false 0 v k))
+
+module _ (make : Bool) (n a : ℕ) (few : n ≤ 48) (t r : List ℕ) (b : ℕ) (i : a < b) (w : Row make n a b t r) where
+  -- the way over b is as it was when the round began
+  row-way : (c : ℕ) → b < c → c < n → wayOf make r a c b ≡ wayOf make t a c b
+  row-way c j k =
+      let p : at r a b ≡ at t a b = w .did b i (omega arith) ∙ part-none make t a b b (omega arith) in
+      let q : at r b c ≡ at t b c = w .same b c j (omega arith) (λ e. omega arith) in
+      let s = stays make (at t a c) (waysOf t a c b) (at r a c) (w .did c (omega arith) k) in
+      rw (s, p, q)
+
+  row-more : (c k : ℕ) → suc k ≡ b → b < c → c < n → at r a c + wayOf make r a c b ≡ partAt make t a c k
+  row-more c k e j m =
+      let p : partAt make t a c k ≡ partAt make t a c b + wayOf make t a c b =
+      part-next make t a c k (omega arith) ∙ ap (λ (z : ℕ). partAt make t a c z + wayOf make t a c z) e in
+      omega (arith, p, w .did c (omega arith) m, row-way c j m)
+
+  pub row-step : (s : List ℕ) → Over make n a b r s → (k : ℕ) → suc k ≡ b → Row make n a k t s
+  row-step s o k e =
+      record {
+        long = o .long ∙ w .long;
+        did = λ c j m. elim (less? b c) [
+          | inl l ↦ o .more c l m ∙ row-more c k e l m
+          | inr l ↦ o .same a c j (omega arith) (λ z. omega (arith, z .1)) ∙ w .did c j m ∙ part-none make t a c b (omega arith) ∙ sym (part-none make t a c k (omega arith))
+        ];
+        same = λ x y j u z. o .same x y j u (λ q. z (q .0)) ∙ w .same x y j u z;
+      }
+
+  pub row-fits : RowFits make n a t → b < n → OverFits make n a b r
+  row-fits f m =
+      record {
+        long = w .long ∙ f .long;
+        few = f .few;
+        rising = i;
+        inside = m;
+        fits = λ c j l.
+            let e : suc (b - 1) ≡ b = omega arith in
+            omega (arith, row-more c (b - 1) e j l, part-most make t a c (b - 1) (omega arith), f .fits c (omega arith) l);
+      }
+
+-- ---- a round: the rows rise
+-- what a round makes of the pair of a and c depends on pairs whose smaller node is not below a
+agree : (make : Bool) (n a c : ℕ) (t r : List ℕ) → a < c → c < n → ((x y : ℕ) → x < y → y < n → a ≤ x → at r x y ≡ at t x y) → roundAt make r a c ≡ roundAt make t a c
+agree make n a c t r i j h =
+    let w : waysOf r a c a ≡ waysOf t a c a =
+    up-same (legOf r a c) (legOf t a c) a (c - suc a) (λ k l. rw (h a (suc a + k) (omega arith) (omega arith) (omega arith), h (suc a + k) c (omega arith) j (omega arith))) in
+    rw (h a c i j (omega arith), w)
+
+module _ (make : Bool) (n a : ℕ) (few : n ≤ 48) (t r : List ℕ) (w : Rows make n a t r) where
+  pub rows-step : (s : List ℕ) → Row make n a a r s → Rows make n (suc a) t s
+  rows-step s v =
+      record {
+        long = v .long ∙ w .long;
+        did = λ x y i j k. elim (same? x a) [
+          | inl e ↦
+              let l : a < y = omega arith in
+              rw e (v .did y l j ∙ agree make n a y t r l j (w .same))
+          | inr o ↦ v .same x y i (omega arith) o ∙ w .did x y i j (earlier x a o k)
+        ];
+        same = λ x y i j k. v .same x y i (omega arith) (λ e. omega arith) ∙ w .same x y i j (omega arith);
       }
     where
       earlier : (x a : ℕ) → (x ≡ a → ⊥) → x < suc a → x < a
       earlier x a o i = omega arith
 
-  pub rows : Long t → (a : ℕ) → a ≤ n → Rows make n a (rowsAfter make n t a) t
-  unfolding rowsAfter
-  rows g zero l = record { long = g; same = λ x y h k i. record { before = refl; after = refl }; did = λ x y h k i. absurd (omega arith) }
-  rows g (suc a) l = rows-step a l (rowsAfter make n t a) (rows g a (omega arith))
-
-  -- all sums fit on the way if those of the round fit
-  pub round-fits : Long t → ((a c : ℕ) → a < c → c < n → Fits16 make t a c) → RoundFits make n t
-  round-fits g f =
-      record {
-        few = few;
-        rows = λ a l.
-            let r = rowsAfter make n t a in
-            let w = rows g a (omega arith) in
-            record {
-              few = few;
-              inside = l;
-              fits = λ m k.
-                  let c = n - suc m in
-                  let s = rowAfter make n a r m in
-                  let v = row make n a few r (w .long) m (omega arith) in
-                  let i : a < n - suc m = omega arith in
-                  let j : n - suc m < n = omega arith in
-                  let p = agree-before make r t a (n - suc m) i (λ b x y. w .same a b x (omega arith) (omega arith)) (λ b x y. w .same b (n - suc m) y j (omega arith)) in
-                  let q = agree-after make r t a (n - suc m) i (λ b x y. w .same a b x (omega arith) (omega arith)) (λ b x y. w .same b (n - suc m) y j (omega arith)) in
-                  record {
-                    before = rw (row-before make n a few r m k s v ∙ p) (f a (n - suc m) i j .before);
-                    after = rw (row-after make n a few r m k s v ∙ q) (f a (n - suc m) i j .after);
-                  };
-            };
-      }
+  pub rows-fit : RoundFits make n t → a < n → RowFits make n a r
+  rows-fit f l = record { long = w .long ∙ f .long; few = f .few; inside = l; fits = λ c i j. rw (agree make n a c t r i j (w .same)) (f .fits a c i j) }

@@ -10,11 +10,11 @@ pub mod Triangle
 pub mod Tables
 pub mod Legs
 pub mod Rounds
-pub mod Bumps
 pub mod InPlace
 pub mod Hold
 pub mod Start
 pub mod Most
+pub mod Weighs
 pub mod Pushed
 pub mod Whole
 pub mod Links

@@ -1,24 +1,28 @@
--- All sums fit 16 bits. Before the rounds each addition counts once. After round 1 a pair has the sums of distinct pairs, so that each
--- addition counts at most once again: at most 352. In round 2 a pair gains two such sums for each of at most 46 nodes between.
+-- No sum of a pair table is above 32,736. Before the rounds each addition counts once. After round 1 a pair has the sums of distinct
+-- pairs, so that each addition counts at most once again: at most 352. In round 2 a pair gains two such sums for each of at most 46
+-- nodes between.
 -- Assumes nothing.
 use Prim.Native.Nat.{ℕ, zero, suc, _+_, _-_, _*_, _≤_, _<_}
 use native.Mathlib.Omega.{arith}
 use mathlib.Core.Logic.{inl, inr}
-use mathlib.Core.Path.{_≡_, refl, _∙_}
-use mathlib.Core.Bool.{Bool, true, false, cond, _||_, _&&_}
+use mathlib.Core.Path.{_≡_, refl, sym, _∙_}
+use mathlib.Core.Bool.{Bool, true, false, cond, _&&_}
 use mathlib.Core.List.{List, [], _∷_, map}
-use lib.Dec.{eqb, ltb}
+use lib.Dec.{eqb}
 use lib.ListN.{length, length-map}
 use borrow.Author.Tests.{eq-eqb, ne-eqb}
 use Rattle.laws.proofs.Tests.{same?}
 use Rattle.graph.specs.Shape.{Shape}
-use Rattle.laws.specs.Lists.{tally}
+use Rattle.laws.specs.Lists.{All, tally}
 use Rattle.order.specs.Against.{Against, against, all}
-use Rattle.order.specs.Weights.{first}
-use Rattle.order.specs.Sums.{Two, at, legAt, legOf, sumUp, gainOf, roundAt, rowsAfter, Fits16, Codes}
-use Rattle.order.proofs.Rounds.{ups, before-first, after-first}
-use Rattle.order.proofs.InPlace.{rows, up-same}
-use Rattle.order.proofs.Hold.{Hold}
+use Rattle.order.specs.Weights.{Table, stands, beforeOf, afterOf, round, first}
+use Rattle.order.specs.Claims.{Aimed}
+use Rattle.order.specs.Sums.{sumUp}
+use Rattle.order.proofs.Tables.{valueOf, before-value, after-value}
+use Rattle.order.proofs.Legs.{leg}
+use Rattle.order.proofs.Rounds.{Fine, Flagged, fine-first, flagged-first, fine-round, Sum, Reads, before-reads, after-reads, gain, round-made, second, ups, before-first, after-first}
+use Rattle.order.proofs.InPlace.{up-same}
+use Rattle.order.proofs.Hold.{gain-up}
 
 -- ---- sums over the nodes after a
 up-add : (f g : ℕ → ℕ) (a m : ℕ) → sumUp (λ b. f b + g b) a m ≡ sumUp f a m + sumUp g a m
@@ -132,41 +136,33 @@ ways-most a m (c ∷ cs) =
     (λ i l. omega (arith, ups-cons a (suc a + i) c cs, ups-cons (suc a + i) e c cs)) in
     omega (arith, s, up-add f g a m, ups-cons a e c cs, hits-most (c .first) (c .second) a m, ways-most a m cs)
 
--- ---- the tables
-leg-le : (x u y v : ℕ) → legAt x u y v ≤ x + y
-leg-le x u y v = go (ltb 0 (x + u)) (ltb 0 (y + v))
-  where
-    go : (s t : Bool) → cond s (cond t (x + y) 0) 0 ≤ x + y
-    go true true = omega arith
-    go true false = omega arith
-    go false t = omega arith
+-- ---- the sum w of a pair after a round
+pick-le : (b : Bool) (x n : ℕ) → x ≤ n → cond b x 0 ≤ n
+pick-le true x n h = h
+pick-le false x n h = omega arith
 
-pick-le : (b : Bool) (x y n : ℕ) → x ≤ n → y ≤ n → cond b x y ≤ n
-pick-le true x y n h k = h
-pick-le false x y n h k = k
+module _ (n : ℕ) (t : Table) (f : Fine n t) (w : Sum) (w' : ℕ → ℕ → ℕ) (r : Reads w w') where
+  leg-le : (a c b : ℕ) → leg w (r .adds) t t a c b ≤ valueOf w a b t + valueOf w b c t
+  leg-le a c b = pick-le (stands a b t) (cond (stands b c t) (valueOf w a b t + valueOf w b c t) 0) (valueOf w a b t + valueOf w b c t) (pick-le (stands b c t) (valueOf w a b t + valueOf w b c t) (valueOf w a b t + valueOf w b c t) (omega arith))
 
-module _ (make : Bool) (n : ℕ) (ws us : List ℕ) where
-  -- before the rounds the table counts the additions of a list
-  pub made-most : (cs : List Against) → ((a b : ℕ) → a < b → b < n → at ws a b ≡ ups a b cs) → (a c : ℕ) → a < c → c < n → roundAt make ws us a c ≤ length cs
-  made-most cs h a c l k =
-      let m = c - (a + 1) in
+  -- the table counts the additions of a list
+  made-most : (cs : List Against) → ((a b : ℕ) → a < b → valueOf w a b t ≡ ups a b cs) → All Flagged t → (a c : ℕ) → a < c → c < n → valueOf w a c (round t) ≤ length cs
+  made-most cs h g a c l k =
+      let m = c - suc a in
       let e : suc a + m ≡ c = omega arith in
-      let s : gainOf ws us a c ≤ sumUp (λ b. ups a b cs + ups b c cs) a m =
-      up-le (legOf ws us a c) (λ b. ups a b cs + ups b c cs) a m
-      (λ i j.
-      omega (arith, leg-le (at ws a (suc a + i)) (at us a (suc a + i)) (at ws (suc a + i) c) (at us (suc a + i) c), h a (suc a + i) (omega arith) (omega arith), h (suc a + i) c (omega arith) k)) in
-      let w : ups a c cs + sumUp (λ b. ups a b cs + ups b c cs) a m ≤ length cs = rw e at (ways-most a m cs) in
-      pick-le (make || ltb 0 (at ws a c + at us a c)) (at ws a c + gainOf ws us a c) (at ws a c) (length cs) (omega (arith, h a c l k)) (omega (arith, h a c l k))
+      let s : sumUp (leg w (r .adds) t t a c) a m ≤ sumUp (λ b. ups a b cs + ups b c cs) a m =
+      up-le (leg w (r .adds) t t a c) (λ b. ups a b cs + ups b c cs) a m
+      (λ i j. omega (arith, leg-le a c (suc a + i), h a (suc a + i) (omega arith), h (suc a + i) c (omega arith))) in
+      let u : ups a c cs + sumUp (λ b. ups a b cs + ups b c cs) a m ≤ length cs = rw e at (ways-most a m cs) in
+      omega (arith, round-made w w' r n t f g a c, gain-up n t f w w' r a c l k, h a c l)
 
-  -- after round 1 each sum is at most 352
-  pub stood-most : n ≤ 48 → ((a b : ℕ) → a < b → b < n → at ws a b ≤ 352) → (a c : ℕ) → a < c → c < n → roundAt make ws us a c ≤ 32736
-  stood-most few h a c l k =
-      let m = c - (a + 1) in
-      let s : gainOf ws us a c ≤ 704 * (c - (a + 1)) =
-      up-most (legOf ws us a c) a (c - (a + 1))
-      (λ i j.
-      omega (arith, leg-le (at ws a (suc a + i)) (at us a (suc a + i)) (at ws (suc a + i) c) (at us (suc a + i) c), h a (suc a + i) (omega arith) (omega arith), h (suc a + i) c (omega arith) k)) in
-      pick-le (make || ltb 0 (at ws a c + at us a c)) (at ws a c + gainOf ws us a c) (at ws a c) 32736 (omega (arith, h a c l k)) (omega (arith, h a c l k))
+  -- each sum is at most 352
+  gain-most : n ≤ 48 → ((a b : ℕ) → a < b → b < n → valueOf w a b t ≤ 352) → (a c : ℕ) → a < c → c < n → valueOf w a c t + gain w w' r n t f a c ≤ 32736
+  gain-most few h a c l k =
+      let s : sumUp (leg w (r .adds) t t a c) a (c - suc a) ≤ 704 * (c - suc a) =
+      up-most (leg w (r .adds) t t a c) a (c - suc a)
+      (λ i j. omega (arith, leg-le a c (suc a + i), h a (suc a + i) (omega arith) (omega arith), h (suc a + i) c (omega arith) k)) in
+      omega (arith, gain-up n t f w w' r a c l k, h a c l k)
 
 -- the additions the other way round
 abbrev swapped : Against → Against
@@ -183,28 +179,30 @@ unfolding ups
 ups-swapped a b [] = refl
 ups-swapped a b (c ∷ cs) = cc (and-swap (eqb (c .first) b) (eqb (c .second) a), ups-swapped a b cs)
 
-module _ (g : Shape) (xs : List ℕ) (c : ℕ) (d : Codes g xs c) (s : Two) (h : Hold (length g) (first g) s) where
+module _ (g : Shape) (few : length g ≤ 48) (aimed : Aimed (length g) g) (room : length (all g) ≤ 352) (a c : ℕ) (l : a < c) (k : c < length g) where
   abbrev n : ℕ
   n = length g
 
-  most-before : (make : Bool) (a b : ℕ) → a < b → b < n → roundAt make (s .befores) (s .afters) a b ≤ 352
-  most-before make a b i j =
-      omega (arith, made-most make n (s .befores) (s .afters) (all g) (λ x y l k. h .before x y l k ∙ before-first g x y l) a b i j, d .size, d .room)
+  pub before-made : beforeOf a c (round (first g)) ≤ 352
+  before-made =
+      omega (arith, before-value a c (round (first g)), made-most n (first g) (fine-first g aimed) (λ e. e .before) (λ x y. x) before-reads (all g) (λ x y i. sym (before-value x y (first g)) ∙ before-first g x y i) (flagged-first g) a c l k)
 
-  most-after : (make : Bool) (a b : ℕ) → a < b → b < n → roundAt make (s .afters) (s .befores) a b ≤ 352
-  most-after make a b i j =
-      omega (arith, made-most make n (s .afters) (s .befores) (map swapped (all g)) (λ x y l k. h .after x y l k ∙ after-first g x y l ∙ ups-swapped x y (all g)) a b i j, length-map (all g) swapped, d .size, d .room)
+  pub after-made : afterOf a c (round (first g)) ≤ 352
+  after-made =
+      omega (arith, after-value a c (round (first g)), made-most n (first g) (fine-first g aimed) (λ e. e .after) (λ x y. y) after-reads (map swapped (all g)) (λ x y i. sym (after-value x y (first g)) ∙ after-first g x y i ∙ ups-swapped x y (all g)) (flagged-first g) a c l k, length-map (all g) swapped)
 
-  -- round 1
-  pub fits-first : (a b : ℕ) → a < b → b < n → Fits16 true s a b
-  fits-first a b i j = record { before = omega (arith, most-before true a b i j); after = omega (arith, most-after true a b i j) }
+-- after both rounds
+module _ (g : Shape) (few : length g ≤ 48) (aimed : Aimed (length g) g) (room : length (all g) ≤ 352) (a c : ℕ) (l : a < c) (k : c < length g) where
+  most : (w : Sum) (w' : ℕ → ℕ → ℕ) (r : Reads w w') → ((x y : ℕ) → x < y → y < length g → valueOf w x y (round (first g)) ≤ 352) → valueOf w a c (round (round (first g))) ≤ 32736
+  most w w' r h =
+      let f = fine-first g aimed in
+      let v = valueOf w a c (round (first g)) + gain w w' r (length g) (round (first g)) (fine-round (length g) (first g) f) a c in
+      omega (arith, second (length g) (first g) f (flagged-first g) w w' r a c, pick-le (stands a c (round (first g))) v 32736 (gain-most (length g) (round (first g)) (fine-round (length g) (first g) f) w w' r few h a c l k))
 
-  -- round 2
-  pub fits-second : (a b : ℕ) → a < b → b < n → Fits16 false (rowsAfter true n s n) a b
-  fits-second a b i j =
-      let w = rows true n (d .few) s (h .long) n (omega arith) in
-      let t = rowsAfter true n s n in
-      record {
-        before = omega (arith, stood-most false n (t .befores) (t .afters) (d .few) (λ x y l k. omega (arith, w .did x y l k (omega arith) .before, most-before true x y l k)) a b i j);
-        after = omega (arith, stood-most false n (t .afters) (t .befores) (d .few) (λ x y l k. omega (arith, w .did x y l k (omega arith) .after, most-after true x y l k)) a b i j);
-      }
+  pub before-most : beforeOf a c (round (round (first g))) ≤ 32736
+  before-most =
+      omega (arith, before-value a c (round (round (first g))), most (λ e. e .before) (λ x y. x) before-reads (λ x y i j. omega (arith, before-value x y (round (first g)), before-made g few aimed room x y i j)))
+
+  pub after-most : afterOf a c (round (round (first g))) ≤ 32736
+  after-most =
+      omega (arith, after-value a c (round (round (first g))), most (λ e. e .after) (λ x y. y) after-reads (λ x y i j. omega (arith, after-value x y (round (first g)), after-made g few aimed room x y i j)))

@@ -1,6 +1,6 @@
 -- The code's tables, keys and chains of a graph are those of the definitions, up to the first columns.
 -- Assumes nothing.
-use Prim.Native.Nat.{ℕ, zero, suc, _+_, _-_, _*_, _≤_, _<_}
+use Prim.Native.Nat.{ℕ, zero, suc, _+_, _-_, _*_, _/_, _%_, _≤_, _<_}
 use native.Mathlib.Omega.{arith}
 use mathlib.Core.Logic.{inl, inr}
 use mathlib.Core.Path.{_≡_, refl, ap, sym, _∙_, subst}
@@ -20,34 +20,30 @@ use Rattle.order.specs.declared.chains.Held.{Held}
 use Rattle.order.specs.Held.{laidFirst, laidOf, Ready, Fit, colourAt, placeAt, columnOf, columnsOf}
 use Rattle.order.specs.Stand.{Stand}
 use Rattle.order.specs.Keys.{keyOf, heldAfter, Keyed}
-use Rattle.order.specs.Sums.{Two, at, firstIn, secondIn, pairKey, keyAt, keysAfter, rowsAfter, tallied, weighed, Weighable, Codes, Charted}
+use Rattle.order.specs.Sums.{at, sumsOf, firstIn, secondIn, turnKey, keyAt, keysAfter, Codes, Charted, Hold, Weighed}
 use Rattle.order.proofs.Nodes.{Sound, Both, both-all, Firsts, firsts-map, firsts-rising, firsts-triples, sound-chains, each-once}
 use Rattle.order.proofs.Fills.{filled-whole}
 use Rattle.order.proofs.Stand.{fit}
 use Rattle.order.proofs.Lay.{left, gone, going, ready, here-inside, columns-are}
-use Rattle.order.proofs.Sorted.{inserted-is, length-inserted, Small, Smalls, smalls, placed-keys, stand-after, keyed}
+use Rattle.order.proofs.Sorted.{inserted-is, keys-long, Small, Smalls, smalls, placed-keys, stand-after, keyed}
 use Rattle.order.proofs.Tables.{value-missing, before-value, after-value}
-use Rattle.order.proofs.Rounds.{Fine, fine-first, flagged-first, fine-round, not-rising}
-use Rattle.order.proofs.InPlace.{round-fits}
-use Rattle.order.proofs.Hold.{Hold, hold-made, hold-stood}
-use Rattle.order.proofs.Start.{none, nodes-at, first-at, second-at, coded, hold-first}
-use Rattle.order.proofs.Most.{fits-first, fits-second}
-
-zeros-at : (n i : ℕ) → _≡_ {A = ℕ} (getD (replicate n 0) i 0) 0
-zeros-at zero i = refl
-zeros-at (suc n) zero = refl
-zeros-at (suc n) (suc i) = zeros-at n i
+use Rattle.order.proofs.Rounds.{Fine, fine-first, fine-round, not-rising}
+use Rattle.order.proofs.Start.{none, nodes-at, first-at, second-at}
+use Rattle.order.proofs.Most.{before-most}
 
 -- ---- the key of a pair
-module _ (n : ℕ) (t : Table) (f : Fine n t) (s : Two) (h : Hold n t s) where
-  pair-key : (p q : ℕ) → p < q → q < n → pairKey (s .befores) (s .afters) p q ≡ keyOf (turned (beforeOf p q t) (afterOf p q t) p q)
-  pair-key p q l k = rw (h .before p q l k, h .after p q l k) (go (ltb (beforeOf p q t) (afterOf p q t)))
+module _ (n : ℕ) (t : Table) (f : Fine n t) (s : List ℕ) (h : Hold n t s) (small : (p q : ℕ) → p < q → q < n → beforeOf p q t < 65536) where
+  pair-key : (p q : ℕ) → p < q → q < n → turnKey (at s p q) p q ≡ keyOf (turned (beforeOf p q t) (afterOf p q t) p q)
+  pair-key p q l k =
+      let x : sumsOf (beforeOf p q t) (afterOf p q t) % 65536 ≡ beforeOf p q t = omega (arith, small p q l k) in
+      let y : sumsOf (beforeOf p q t) (afterOf p q t) / 65536 ≡ afterOf p q t = omega (arith, small p q l k) in
+      rw (h p q l k, x, y) (go (ltb (beforeOf p q t) (afterOf p q t)))
     where
       go : (b : Bool) → cond b (beforeOf p q t * 4096 + q * 64 + p) (afterOf p q t * 4096 + p * 64 + q) ≡ keyOf (cond b (triple (beforeOf p q t) q p) (triple (afterOf p q t) p q))
       go true = refl
       go false = refl
 
-  pub key-is : (c : Against) → c .first < n → c .second < n → keyAt (s .befores) (s .afters) (c .first) (c .second) ≡ keyOf (tripleOf t c)
+  pub key-is : (c : Against) → c .first < n → c .second < n → keyAt s (c .first) (c .second) ≡ keyOf (tripleOf t c)
   key-is c i j =
       elim (same? (c .first) (c .second)) [
         | inl e ↦
@@ -78,53 +74,18 @@ both-take n cs zero b = tt
 both-take n [] (suc k) b = tt
 both-take n (c ∷ cs) (suc k) b = (b .0, b .1, both-take n cs k (b .2))
 
-keys-long : (xs bs zs ks : List ℕ) (k : ℕ) → k ≤ length ks → length (keysAfter xs bs zs ks k) ≡ length ks
-unfolding keysAfter
-keys-long xs bs zs ks zero l = refl
-keys-long xs bs zs ks (suc k) l =
-    let e = keys-long xs bs zs ks k (omega arith) in
-    length-inserted (keysAfter xs bs zs ks k) k (keyAt bs zs (firstIn (getD xs k 0)) (secondIn (getD xs k 0))) (omega arith) ∙ e
-
-module _ (g : Shape) (xs : List ℕ) (c : ℕ) (d : Codes g xs c) where
+-- s is the table after both rounds
+module _ (g : Shape) (xs : List ℕ) (c : ℕ) (d : Codes g xs c) (s : List ℕ) (h : Hold (length g) (weights g) s) where
   abbrev n : ℕ
   n = length g
-
-  abbrev l₀ : List ℕ
-  l₀ = replicate 1128 0
-
-  abbrev s₀ : Two
-  s₀ = tallied xs l₀ l₀ c
-
-  full : length l₀ ≡ 1128
-  full = length-replicate {A = ℕ} 1128 0
-
-  hold₀ : Hold n (first g) s₀
-  hold₀ = hold-first g xs c d l₀ l₀ full full (zeros-at 1128) (zeros-at 1128)
-
-  hold₁ : Hold n (round (first g)) (rowsAfter true n s₀ n)
-  hold₁ = hold-made n (d .few) (first g) (fine-first g (d .aimed)) s₀ hold₀ (flagged-first g)
-
-  abbrev s₂ : Two
-  s₂ = weighed xs l₀ l₀ c n
-
-  hold₂ : Hold n (weights g) s₂
-  unfolding weights
-  hold₂ = hold-stood n (d .few) (first g) (fine-first g (d .aimed)) (flagged-first g) (rowsAfter true n s₀ n) hold₁
 
   fine₂ : Fine n (weights g)
   unfolding weights
   fine₂ = fine-round n (round (first g)) (fine-round n (first g) (fine-first g (d .aimed)))
 
-  pub weighable : Weighable xs l₀ l₀ c n
-  weighable =
-      record {
-        room = d .room;
-        coded = coded g xs c d;
-        befores = zeros-at 1128;
-        afters = zeros-at 1128;
-        made = round-fits true n (d .few) s₀ (hold₀ .long) (fits-first g xs c d s₀ hold₀);
-        stood = round-fits false n (d .few) (rowsAfter true n s₀ n) (hold₁ .long) (fits-second g xs c d s₀ hold₀);
-      }
+  small₂ : (p q : ℕ) → p < q → q < n → beforeOf p q (weights g) < 65536
+  unfolding weights
+  small₂ p q i j = omega (arith, before-most g (d .few) (d .aimed) (omega (arith, d .size, d .room)) p q i j)
 
   abbrev ks₀ : List ℕ
   ks₀ = replicate 352 0
@@ -137,17 +98,17 @@ module _ (g : Shape) (xs : List ℕ) (c : ℕ) (d : Codes g xs c) where
       smalls n (upTo k) (d .few)
       (firsts-rising n (map (tripleOf (weights g)) (take k (all g))) [] tt (firsts-map n (weights g) (take k (all g)) (both-take n (all g) k (both-all g (d .aimed)))))
 
-  keys-are : (k : ℕ) → k ≤ c → take k (keysAfter xs (s₂ .befores) (s₂ .afters) ks₀ k) ≡ map keyOf (upTo k)
+  keys-are : (k : ℕ) → k ≤ c → take k (keysAfter xs s ks₀ k) ≡ map keyOf (upTo k)
   unfolding keysAfter
-  keys-are zero h = refl
-  keys-are (suc k) h =
-      let v = nodes-at g xs c d k h in
-      let key : keyAt (s₂ .befores) (s₂ .afters) (firstIn (getD xs k 0)) (secondIn (getD xs k 0)) ≡ keyOf (tripleOf (weights g) (getD (all g) k none)) =
-      rw (first-at g xs c d k h, second-at g xs c d k h) (key-is n (weights g) fine₂ s₂ hold₂ (getD (all g) k none) (v .0) (v .1)) in
-      let long : k < length (keysAfter xs (s₂ .befores) (s₂ .afters) ks₀ k) = omega (arith, keys-long xs (s₂ .befores) (s₂ .afters) ks₀ k (omega (arith, d .room, length-replicate {A = ℕ} 352 0)), d .room, length-replicate {A = ℕ} 352 0) in
+  keys-are zero i = refl
+  keys-are (suc k) i =
+      let v = nodes-at g xs c d k i in
+      let key : keyAt s (firstIn (getD xs k 0)) (secondIn (getD xs k 0)) ≡ keyOf (tripleOf (weights g) (getD (all g) k none)) =
+      rw (first-at g xs c d k i, second-at g xs c d k i) (key-is n (weights g) fine₂ s h small₂ (getD (all g) k none) (v .0) (v .1)) in
+      let long : k < length (keysAfter xs s ks₀ k) = omega (arith, keys-long xs s ks₀ k (omega (arith, d .room, length-replicate {A = ℕ} 352 0)), d .room, length-replicate {A = ℕ} 352 0) in
       let b = firsts-map n (weights g) (getD (all g) k none ∷ []) (v .0, v .1, tt) in
       let small : Small (tripleOf (weights g) (getD (all g) k none)) = record { first = omega (arith, b .0, d .few); second = omega (arith, b .1, d .few) } in
-      inserted-is (keysAfter xs (s₂ .befores) (s₂ .afters) ks₀ k) k (keyAt (s₂ .befores) (s₂ .afters) (firstIn (getD xs k 0)) (secondIn (getD xs k 0))) long
+      inserted-is (keysAfter xs s ks₀ k) k (keyAt s (firstIn (getD xs k 0)) (secondIn (getD xs k 0))) long
       ∙ rw (key, keys-are k (omega arith)) (sym (placed-keys (tripleOf (weights g) (getD (all g) k none)) (upTo k) small (small-upTo k)))
       ∙ ap (map keyOf) (sym (ap (λ (cs : List Against). rising [] (map (tripleOf (weights g)) cs)) (take-suc (all g) k none (omega (arith, d .size))) ∙ ap (rising []) (map-end (tripleOf (weights g)) (take k (all g)) (getD (all g) k none)) ∙ rising-end (map (tripleOf (weights g)) (take k (all g))) [] (tripleOf (weights g) (getD (all g) k none))))
 
@@ -157,7 +118,7 @@ module _ (g : Shape) (xs : List ℕ) (c : ℕ) (d : Codes g xs c) where
   upTo-all = ap (λ (cs : List Against). rising [] (map (tripleOf (weights g)) cs)) (ap (λ (k : ℕ). take k (all g)) (sym (d .size)) ∙ take-length (all g))
 
   abbrev ks : List ℕ
-  ks = keysAfter xs (s₂ .befores) (s₂ .afters) ks₀ c
+  ks = keysAfter xs s ks₀ c
 
   keys-triples : take c ks ≡ map keyOf (triples g)
   keys-triples = keys-are c (omega arith) ∙ ap (map keyOf) upTo-all
@@ -165,7 +126,7 @@ module _ (g : Shape) (xs : List ℕ) (c : ℕ) (d : Codes g xs c) where
   keys-size : length (triples g) ≡ c
   keys-size =
       let f : length (map keyOf (triples g)) ≡ length (triples g) = length-map (triples g) keyOf in
-      let e : length (take c ks) ≡ c = length-take-le c ks (omega (arith, keys-long xs (s₂ .befores) (s₂ .afters) ks₀ c (omega (arith, d .room, length-replicate {A = ℕ} 352 0)), d .room, length-replicate {A = ℕ} 352 0)) in
+      let e : length (take c ks) ≡ c = length-take-le c ks (omega (arith, keys-long xs s ks₀ c (omega (arith, d .room, length-replicate {A = ℕ} 352 0)), d .room, length-replicate {A = ℕ} 352 0)) in
       omega (arith, f, e, ap (λ (v : List ℕ). length v) keys-triples)
 
   firsts : Firsts n (triples g)
@@ -200,43 +161,40 @@ module _ (g : Shape) (xs : List ℕ) (c : ℕ) (d : Codes g xs c) where
   unfolding columns order
   columns-all = columns-are n (chains g) h₁ stands-all sound-all
 
--- ---- of any graph of n nodes whose codes the first c are
-abbrev pub sums : List ℕ → ℕ → ℕ → Two
-sums xs c n = weighed xs (replicate 1128 0) (replicate 1128 0) c n
+-- ---- of any graph of n nodes whose codes the first c are, and a table that has its weights
+abbrev pub keysOf : List ℕ → List ℕ → ℕ → List ℕ
+keysOf xs s c = keysAfter xs s (replicate 352 0) c
 
-abbrev pub keysOf : List ℕ → ℕ → ℕ → List ℕ
-keysOf xs c n = keysAfter xs (sums xs c n .befores) (sums xs c n .afters) (replicate 352 0) c
+abbrev pub heldOf : List ℕ → List ℕ → ℕ → ℕ → Held
+heldOf xs s c n = heldAfter n (keysOf xs s c) c
 
-abbrev pub heldOf : List ℕ → ℕ → ℕ → Held
-heldOf xs c n = heldAfter n (keysOf xs c n) c
+abbrev pub startsOf : List ℕ → List ℕ → ℕ → ℕ → List ℕ
+startsOf xs s c n = laidOf n (laidFirst (heldOf xs s c n)) n .starts
 
-abbrev pub startsOf : List ℕ → ℕ → ℕ → List ℕ
-startsOf xs c n = laidOf n (laidFirst (heldOf xs c n)) n .starts
+pub few-at : (xs : List ℕ) (c n : ℕ) → Charted xs c n → n ≤ 48
+few-at xs c n w = omega (arith, w .size, w .codes .few)
 
-module _ (xs : List ℕ) (c n : ℕ) (w : Charted xs c n) where
-  pub weighable-at : Weighable xs (replicate 1128 0) (replicate 1128 0) c n
-  weighable-at = subst (λ (k : ℕ). Weighable xs (replicate 1128 0) (replicate 1128 0) c k) (w .size) (weighable (w .graph) xs c (w .codes))
+module _ (xs : List ℕ) (c n : ℕ) (w : Charted xs c n) (s : List ℕ) (h : Weighed xs c n s) where
+  held-at : Hold (length (w .graph)) (weights (w .graph)) s
+  held-at = h (w .graph) (w .codes) (w .size)
 
-  pub few-at : n ≤ 48
-  few-at = omega (arith, w .size, w .codes .few)
+  pub keyed-at : Keyed n (keysOf xs s c) c
+  keyed-at = subst (λ (k : ℕ). Keyed k (keysOf xs s c) c) (w .size) (keyed-all (w .graph) xs c (w .codes) s held-at)
 
-  pub keyed-at : Keyed n (keysOf xs c n) c
-  keyed-at = subst (λ (k : ℕ). Keyed k (keysOf xs c k) c) (w .size) (keyed-all (w .graph) xs c (w .codes))
+  pub fit-at : Fit n (heldOf xs s c n)
+  fit-at = subst (λ (k : ℕ). Fit k (heldOf xs s c k)) (w .size) (fit-all (w .graph) xs c (w .codes) s held-at)
 
-  pub fit-at : Fit n (heldOf xs c n)
-  fit-at = subst (λ (k : ℕ). Fit k (heldOf xs c k)) (w .size) (fit-all (w .graph) xs c (w .codes))
+  pub ready-at : (i : ℕ) → i < n → Ready n (laidOf n (laidFirst (heldOf xs s c n)) i)
+  ready-at = subst (λ (k : ℕ). (i : ℕ) → i < k → Ready k (laidOf k (laidFirst (heldOf xs s c k)) i)) (w .size) (ready-all (w .graph) xs c (w .codes) s held-at)
 
-  pub ready-at : (i : ℕ) → i < n → Ready n (laidOf n (laidFirst (heldOf xs c n)) i)
-  ready-at = subst (λ (k : ℕ). (i : ℕ) → i < k → Ready k (laidOf k (laidFirst (heldOf xs c k)) i)) (w .size) (ready-all (w .graph) xs c (w .codes))
-
-  pub inside-at : (p : ℕ) → p < n → getD (startsOf xs c n) (colourAt (heldOf xs c n) p) 0 + placeAt (heldOf xs c n) p < n
-  inside-at = subst (λ (k : ℕ). (p : ℕ) → p < k → getD (startsOf xs c k) (colourAt (heldOf xs c k) p) 0 + placeAt (heldOf xs c k) p < k) (w .size) (inside-all (w .graph) xs c (w .codes))
+  pub inside-at : (p : ℕ) → p < n → getD (startsOf xs s c n) (colourAt (heldOf xs s c n) p) 0 + placeAt (heldOf xs s c n) p < n
+  inside-at = subst (λ (k : ℕ). (p : ℕ) → p < k → getD (startsOf xs s c k) (colourAt (heldOf xs s c k) p) 0 + placeAt (heldOf xs s c k) p < k) (w .size) (inside-all (w .graph) xs c (w .codes) s held-at)
 
 -- the whole array: the columns of n nodes, and 0 past them
-pub columns-at : (xs : List ℕ) (c n : ℕ) (g : Shape) → Codes g xs c → length g ≡ n → columnsOf (heldOf xs c n) (startsOf xs c n) n ≡ columns g ++ replicate (48 - n) 0
-columns-at xs c n g d e =
-    filled-whole (columnOf (heldOf xs c n) (startsOf xs c n)) n 48
-    ∙ ap (λ (v : List ℕ). v ++ replicate (48 - n) 0) (subst (λ (k : ℕ). take k (columnsOf (heldOf xs c k) (startsOf xs c k) k) ≡ columns g) e (columns-all g xs c d))
+pub columns-at : (xs : List ℕ) (c n : ℕ) (s : List ℕ) → Weighed xs c n s → (g : Shape) → Codes g xs c → length g ≡ n → columnsOf (heldOf xs s c n) (startsOf xs s c n) n ≡ columns g ++ replicate (48 - n) 0
+columns-at xs c n s h g d e =
+    filled-whole (columnOf (heldOf xs s c n) (startsOf xs s c n)) n 48
+    ∙ ap (λ (v : List ℕ). v ++ replicate (48 - n) 0) (subst (λ (k : ℕ). take k (columnsOf (heldOf xs s c k) (startsOf xs s c k) k) ≡ columns g) e (columns-all g xs c d s (h g d e)))
 
 pub each-at : (xs : List ℕ) (c n : ℕ) (g : Shape) → Codes g xs c → length g ≡ n → EachOnce n (take n (columns g ++ replicate (48 - n) 0))
 each-at xs c n g d e =

@@ -16,7 +16,7 @@ use crate::sums::sort;
 use crate::weights::pair_weights;
 use graph::Ends;
 
-fn no_sums() -> [u16; 1128]
+fn no_sums() -> [u32; 1128]
     ensures { λ r. ⌜ r ≡ replicate 1128 0 ⌝ }
 {
     [0; 1128]
@@ -40,11 +40,10 @@ fn first_columns(codes: &[u16; 352], count: usize, n: usize) -> [u8; 48]
     ensures columns { λ r. ⌜ ((g : Shape) → Codes g (now (codes .entry)) count → length g ≡ n → r ≡ columns g ++ replicate (48 - n) 0) ⌝ }
     ensures each { λ r. ⌜ EachOnce n (take n r) ⌝ }
 {
-    let mut before = no_sums();
-    let mut after = no_sums();
-    pair_weights(codes, count, n, &mut before, &mut after);
+    let mut sums = no_sums();
+    pair_weights(codes, count, n, &mut sums);
     let mut keys = no_keys();
-    sort(codes, count, &before, &after, &mut keys);
+    sort(codes, count, &sums, &mut keys);
     let h = chained(&keys, count, n);
     let starts = starts_of(h, n);
     columns_of(h, starts, n)

@@ -1,62 +1,51 @@
--- `weights::round_row` meets its contract: as k rises, the pairs of a with the last nodes are done, k - a - 1 of them.
+-- `weights::round_row` meets its contract: as b falls, the ways over the nodes after b are added.
 -- Assumes nothing.
-use Prim.Native.Nat.{suc, _+_, _-_, _<_, _≤_}
+use Prim.Native.Nat.{ℕ, suc, _-_, _<_, _≤_}
 use native.Mathlib.Omega.{arith}
-use mathlib.Core.Path.{_≡_}
-use Rattle.order.specs.Sums.{Fits16, rowAfter}
-use Rattle.order.proofs.Bumps.{row-next}
+use mathlib.Core.Path.{_≡_, subst}
+use Rattle.order.specs.Sums.{Row}
+use Rattle.order.proofs.InPlace.{row-start, row-step, row-fits}
 use borrow.Author.Needs.{needs}
 use Rattle.order.proofs.weights.round_row.Statement.{statement}
 use Rattle.order.proofs.weights.round_row.Tie as tie
 
 abbrev Inv-loop : tie.InvT-loop
-Inv-loop before₀ after₀ a n make k₀ before after k = (a < k) × (k ≤ n) × (before ≡ rowAfter make n a (record { befores = before₀; afters = after₀ }) (k - suc a) .befores) × (after ≡ rowAfter make n a (record { befores = before₀; afters = after₀ }) (k - suc a) .afters)
+Inv-loop sums₀ a n make b₀ sums b = (a ≤ b) × (b < n) × Row make n a b sums₀ sums
 
 abbrev μ-loop : tie.MeasureT-loop
-μ-loop before₀ after₀ a n make k₀ before after k = n - k
+μ-loop sums₀ a n make b₀ sums b = b
 
-add-k : tie.Need-add-k Inv-loop μ-loop
-add-k c = omega (arith, c .pre .inside, c .pre .few)
+sub-b : tie.Need-sub-b Inv-loop μ-loop
+sub-b c = search needs
 
 loop-holds : tie.Need-loop-holds Inv-loop μ-loop
-unfolding rowAfter
-loop-holds c =
-    let e : c .args .a + 1 - suc (c .args .a) ≡ 0 = omega arith in
-    (omega arith, omega (arith, c .pre .inside), rw e, rw e)
+loop-holds c = (omega (arith, c .pre .inside), omega (arith, c .pre .inside), row-start (c .args .make) (c .args .n) (c .args .a) (c .args .n - 1) (c .args .sums .now) (omega arith))
 
-add-round-pair : tie.Need-add-round-pair Inv-loop μ-loop
-add-round-pair c = search needs
+add-ways-requires : tie.Need-add-ways-requires Inv-loop μ-loop
+add-ways-requires c κs =
+    let z = c .before .before .before in
+    let l = c .before .before .loop in
+    row-fits (z .args .make) (z .args .n) (z .args .a) (z .pre .few) (z .args .sums .now) (l .sums) (l .b) (c .before .loop-test .taken) (l .inv .2) (z .pre) (l .inv .1)
 
-sub-round-pair : tie.Need-sub-round-pair Inv-loop μ-loop
-sub-round-pair c = search needs
-
-round-pair-requires : tie.Need-round-pair-requires Inv-loop μ-loop
-round-pair-requires c κs =
-    let z = c .before .before .before .before in
-    let l = c .before .before .before .loop in
-    let e : z .args .n - suc (l .k - suc (z .args .a)) ≡ z .args .n + z .args .a - l .k = omega arith in
-    let p : Fits16 (z .args .make) (rowAfter (z .args .make) (z .args .n) (z .args .a) (record { befores = z .args .before .now; afters = z .args .after .now }) (l .k - suc (z .args .a))) (z .args .a) (z .args .n + z .args .a - l .k) = rw e at (z .pre .fits (l .k - suc (z .args .a)) (omega arith)) in
-    ((omega arith, omega (arith, z .pre .few)), rw (l .inv .2, l .inv .3) p)
-
-add-k-2 : tie.Need-add-k-2 Inv-loop μ-loop
-add-k-2 c = search needs
+sub-b-2 : tie.Need-sub-b-2 Inv-loop μ-loop
+sub-b-2 c = search needs
 
 loop-less : tie.Need-loop-less Inv-loop μ-loop
 loop-less c = search needs
 
 loop-again : tie.Need-loop-again Inv-loop μ-loop
 loop-again c =
-    let z = c .before .before .before .before .before in
-    let l = c .before .before .before .before .loop in
-    let e = row-next (z .args .make) (z .args .n) (z .args .a) (record { befores = z .args .before .now; afters = z .args .after .now }) (l .k) (l .inv .0) (search needs) in
-    (omega arith, omega arith, rw (e, c .round-pair .ensures .0, l .inv .2, l .inv .3), rw (e, c .round-pair .ensures .1, l .inv .2, l .inv .3))
+    let z = c .before .before .before .before in
+    let l = c .before .before .before .loop in
+    let e : suc (l .b - 1) ≡ l .b = omega arith in
+    (omega arith, omega arith, row-step (z .args .make) (z .args .n) (z .args .a) (z .pre .few) (z .args .sums .now) (l .sums) (l .b) (c .before .before .loop-test .taken) (l .inv .2) (c .add-ways .last .0) (c .add-ways .ensures) (l .b - 1) e)
 
 returns : tie.Need-returns Inv-loop μ-loop
 returns c =
-    let z = c .before .before in
+    let z = c .before .before .args in
     let l = c .before .loop in
-    let e : l .k - suc (z .args .a) ≡ z .args .n - suc (z .args .a) = omega arith in
-    (rw (← e) (l .inv .2), rw (← e) (l .inv .3))
+    let e : l .b ≡ z .a = omega arith in
+    subst (λ (k : ℕ). Row (z .make) (z .n) (z .a) k (z .sums .now) (l .sums)) e (l .inv .2)
 
 pub round-row-spec : {M : Type 1} → statement M
 round-row-spec =
@@ -64,12 +53,10 @@ round-row-spec =
     (tie.spec
     Inv-loop
     μ-loop
-    add-k
+    sub-b
     loop-holds
-    add-round-pair
-    sub-round-pair
-    round-pair-requires
-    add-k-2
+    add-ways-requires
+    sub-b-2
     loop-less
     loop-again
     returns)
