@@ -18,12 +18,14 @@ use Rattle.chart.specs.declared.reader.Nodes.{Nodes}
 use Rattle.chart.specs.declared.judge.Outside.{Outside}
 use Rattle.chart.specs.declared.judge.Outside.the-variants.{Nothing, Target}
 use Rattle.chart.specs.Chart.{Part, End, Node, Board, Reading, ready, refusal, Got, got, refused, numberOf, endsOf, targets, targetsOf, firstOutside, judgeTargets, judge, judged, bodies, chart}
-use Rattle.chart.specs.Tables.{emptyBoard, itemOf, lineOf, sourcesFrom, linesFrom, sinksFrom, boardTables, boardOf, tablesOf, withNodes}
-use Rattle.chart.specs.Steps.{nodesOf, outsideOf}
+use Rattle.chart.specs.Tables.{itemOf, lineOf, sourcesFrom, linesFrom, sinksFrom, boardTables}
+use Rattle.chart.specs.code.Filled.{emptyBoard, boardOf, tablesOf, withNodes}
+use Rattle.chart.specs.code.Steps.{nodesOf, outsideOf}
 use Rattle.laws.specs.Lists.{All, capped}
 use Rattle.laws.proofs.Lists.{all-map, all-flat, capped-room, capped-full}
 use Rattle.chart.specs.Accepted.{Fitting, Aimed, Formed, Accepted}
-use Rattle.chart.specs.Read.{numbersOf, outcomeOf, IsRead, closedOf, readingOf, readOf, Joins, Sound, Reads, answered, judgedOf}
+use Rattle.chart.specs.Read.{numbersOf, outcomeOf, IsRead}
+use Rattle.chart.specs.code.Reads.{closedOf, readingOf, readOf, Joins, Sound, Reads, answered, judgedOf}
 use Rattle.chart.proofs.Readers.{number-some}
 use Rattle.chart.proofs.Gives.{Gives, EndFits, Shaped, Bodies, bodies-give}
 use Rattle.chart.proofs.Held.{LowNode, tables-are, board-held, ends-count, lines-count, table-back, lines-back, tables-held}

@@ -16,7 +16,8 @@ use Rattle.chart.specs.declared.Line.{Line}
 use Rattle.chart.specs.declared.Lines.{Lines}
 use Rattle.chart.specs.declared.Board.{Board as Tables}
 use Rattle.chart.specs.Chart.{Part, End, Node, Board, endsOf}
-use Rattle.chart.specs.Tables.{noItem, noLine, emptyTable, emptyLines, emptyBoard, endOf, partOf, itemsOf, linesOf, nodeOf, boardFrom, boardOf, itemOf, lineOf, sourcesFrom, linesFrom, sinksFrom, boardTables, pushed, pushedLine, pushAll, pushLines, withNode, withNodes, tablesOf}
+use Rattle.chart.specs.Tables.{noItem, noLine, itemOf, lineOf, sourcesFrom, linesFrom, sinksFrom, boardTables}
+use Rattle.chart.specs.code.Filled.{emptyTable, emptyLines, emptyBoard, endOf, partOf, itemsOf, linesOf, nodeOf, boardFrom, boardOf, pushed, pushedLine, pushAll, pushLines, withNode, withNodes, tablesOf}
 use Rattle.laws.specs.Lists.{All, one, flat, padded, capped}
 use Rattle.laws.proofs.Lists.{length-one, all-map, tabulate-list, owned-flat, padded-set, padded-full, take-padded, capped-room, capped-full, capped-past}
 

@@ -24,8 +24,9 @@ use Rattle.chart.specs.declared.reader.Counts.{Counts as CountsRead}
 use Rattle.chart.specs.declared.reader.Ends.{Ends}
 use Rattle.chart.specs.declared.reader.Texts.{Texts}
 use Rattle.chart.specs.declared.reader.Nodes.{Nodes}
-use Rattle.chart.specs.Tables.{emptyTable, emptyLines, emptyBoard, pushed, pushedLine, itemOf, lineOf, pushAll, pushLines, withNode, withNodes}
-use Rattle.chart.specs.Steps.{skipOf, spanOf, endOf, endsOf, textsOf, countsOf, itemsRead, nodeOf, nodesOf, skips, reads-ends, reads-texts}
+use Rattle.chart.specs.Tables.{itemOf, lineOf}
+use Rattle.chart.specs.code.Filled.{emptyTable, emptyLines, emptyBoard, pushed, pushedLine, pushAll, pushLines, withNode, withNodes}
+use Rattle.chart.specs.code.Steps.{skipOf, spanOf, endOf, endsOf, textsOf, countsOf, itemsRead, nodeOf, nodesOf, skips, reads-ends, reads-texts}
 
 -- a refusal's number is not 0
 pub number-some : (r : Refusal) → numberOf r ≡ 0 → ⊥

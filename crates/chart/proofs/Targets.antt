@@ -17,8 +17,9 @@ use Rattle.chart.specs.declared.Line.{Line}
 use Rattle.chart.specs.declared.judge.Outside.{Outside}
 use Rattle.chart.specs.declared.judge.Outside.the-variants.{Nothing, Target}
 use Rattle.chart.specs.Chart.{Part, End, Node, Board, targets, targetsOf, firstOutside}
-use Rattle.chart.specs.Tables.{noItem, endOf, owned, itemsOf, nodeOf, boardFrom}
-use Rattle.chart.specs.Steps.{outsideOf}
+use Rattle.chart.specs.Tables.{noItem}
+use Rattle.chart.specs.code.Filled.{endOf, owned, itemsOf, nodeOf, boardFrom}
+use Rattle.chart.specs.code.Steps.{outsideOf}
 use Rattle.laws.specs.Lists.{tabulate}
 use Rattle.laws.proofs.Lists.{one-more}
 

@@ -1,22 +1,13 @@
 -- What `read` answers.
 -- Assumes nothing.
-use Prim.Native.Nat.{ℕ, _+_, _-_, _≤_, _<_}
+use Prim.Native.Nat.{ℕ}
 use mathlib.Core.Path.{_≡_}
-use mathlib.Core.Option.{Option, none, some}
-use mathlib.Core.Bool.{cond}
 use mathlib.Core.List.{List, []}
-use lib.Dec.{leb, ltb}
-use lib.ListN.{length}
-use Rattle.chart.specs.declared.Item.{Item}
-use Rattle.chart.specs.declared.Line.{Line}
-use Rattle.chart.specs.declared.Board.{Board as Tables}
 use Rattle.chart.specs.declared.Answer.{Answer}
 use Rattle.chart.specs.declared.Answer.the-variants.{Ready, Refused}
 use Rattle.chart.specs.declared.Outcome.{Outcome}
-use Rattle.chart.specs.declared.reader.Nodes.{Nodes}
-use Rattle.chart.specs.Chart.{Board, Reading, ready, refusal, targetsOf, firstOutside, chart}
-use Rattle.chart.specs.Tables.{emptyBoard, itemsOf, linesOf, boardOf, boardTables, tablesOf}
-use Rattle.laws.specs.Lists.{All}
+use Rattle.chart.specs.Chart.{Board, Reading, ready, refusal, chart}
+use Rattle.chart.specs.Tables.{boardTables}
 use Rattle.chart.specs.Accepted.{Accepted}
 
 -- document 01's numbers of each answer, 0 where nothing is refused, and its second number
@@ -24,9 +15,12 @@ pub record Numbers : Type 0 where
   pub first : ℕ
   pub second : ℕ
 
+abbrev pub numbers : ℕ → ℕ → Numbers
+numbers a b = record { first = a; second = b }
+
 abbrev pub numbersOf : Answer → Numbers
-numbersOf Ready = record { first = 0; second = 0 }
-numbersOf (Refused number second) = record { first = number; second = second }
+numbersOf Ready = numbers 0 0
+numbersOf (Refused number second) = numbers number second
 
 -- the answer of a reading: each field is fixed, past the counts too; a refused chart's tables are those of no node
 abbrev pub outcomeOf : Reading → Outcome
@@ -35,63 +29,8 @@ outcomeOf (refusal number second) = record { answer = Refused number second; boa
 
 -- r is what the chart s is read as
 pub record IsRead (s : List ℕ) (r : Outcome) : Type 0 where
-  -- every field, past the counts too
+  -- every field, past the counts too; a refusal is document 01's two numbers
   pub whole : r ≡ outcomeOf (chart s)
-  -- a refusal is document 01's two numbers
-  pub refused : (number second : ℕ) → chart s ≡ refusal number second → numbersOf (r .answer) ≡ record { first = number; second = second }
+  pub refused : (number second : ℕ) → chart s ≡ refusal number second → numbersOf (r .answer) ≡ numbers number second
   -- an accepted chart is within document 01's limits
   pub limits : (ps : Board) → chart s ≡ ready ps → Accepted s ps
-
--- ---- what follows, for the crates above (`reads-of` of proofs/Accepts)
--- the reading that an answer with a board stands for
-abbrev pub reading : Answer → Board → Reading
-reading Ready ps = ready ps
-reading (Refused number second) ps = refusal number second
-
-abbrev pub readingOf : Outcome → Reading
-readingOf r = reading (r .answer) (boardOf (r .board))
-
--- the answer of a reading, with the tables as the code makes them
-abbrev pub readOf : Reading → Outcome
-readOf (ready ps) = record { answer = Ready; board = tablesOf (length ps) ps }
-readOf (refusal number second) = record { answer = Refused number second; board = emptyBoard 0 }
-
--- a record's owner and target are nodes
-abbrev pub Joins : ℕ → Item → Type 0
-Joins n x = (x .owner < n) × (x .to < n)
-
--- the tables, for the crates above: the counts are within the arrays, each owner and each target is a node
-pub record Sound (b : Tables) : Type 0 where
-  pub nodes : b .n ≤ 32
-  pub ends : b .sources .count + b .sinks .count ≤ 64
-  pub lines : b .lines .count ≤ 128
-  pub sources : All (Joins (b .n)) (itemsOf (b .sources))
-  pub owners : All (λ (x : Line). x .owner < b .n) (linesOf (b .lines))
-  pub sinks : All (Joins (b .n)) (itemsOf (b .sinks))
-
-pub record Reads (s : List ℕ) (r : Outcome) : Type 0 where
-  -- the answer and the board are exactly the definition's
-  pub reads : readingOf r ≡ chart s
-  -- every field, past the counts too
-  pub whole : r ≡ readOf (chart s)
-  -- an accepted chart is within document 01's limits
-  pub limits : r .answer ≡ Ready → Accepted s (boardOf (r .board))
-  -- the tables, whether accepted or not
-  pub sound : Sound (r .board)
-
--- 11 and 12, of the tables
-abbrev pub answered : Tables → Option ℕ → Outcome
-answered b none = record { answer = Ready; board = b }
-answered b (some t) = readOf (refusal 12 t)
-
-unfoldable pub judgedOf : Tables → Outcome
-judgedOf b =
-    cond (leb (b .sources .count) 64)
-    (cond (leb (b .sinks .count) (64 - b .sources .count))
-    (answered b (firstOutside (targetsOf (boardOf b)) (b .n)))
-    (readOf (refusal 11 0)))
-    (readOf (refusal 11 0))
-
--- 10, and then 11 and 12, of the nodes of a chart of k bytes
-abbrev pub closedOf : Nodes → ℕ → Outcome
-closedOf r k = cond (ltb (r .end) k) (readOf (refusal 10 0)) (judgedOf (r .board))

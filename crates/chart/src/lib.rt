@@ -2,7 +2,8 @@
 // a node's list is its records in table order.
 ghost use mathlib.Core.Path.{_≡_};
 ghost use Rattle.chart.specs.Chart.{refusal};
-ghost use Rattle.chart.specs.Read.{readOf, judgedOf, closedOf, IsRead};
+ghost use Rattle.chart.specs.Read.{IsRead};
+ghost use Rattle.chart.specs.code.Reads.{readOf, judgedOf, closedOf};
 use judge::Outside;
 use reader::Nodes;
 

@@ -1,5 +1,15 @@
 // A picture of a chart: a chart on standard input, its first 8,192 bytes, at origin 0 0; its sheet and labels, an SVG 1.1 document, on standard output.
 // Refused: the refusal on standard error, and nothing on standard output.
+ghost use mathlib.Core.Path.{_≡_};
+ghost use mathlib.Core.Bool.{true};
+ghost use Prim.Native.Nat.{_≤_};
+ghost use lib.ListN.{length};
+ghost use Rattle.io.specs.Counts.{Counts};
+ghost use Rattle.grid.specs.Labels.{labelOf};
+ghost use Rattle.grid.specs.Record.{soundOf};
+ghost use Rattle.grid.specs.RenderGrid.{Sheet};
+ghost use Rattle.grid.specs.Sheeted.{ready, sheeted};
+ghost use Rattle.path.specs.Promises.{IsWritten};
 use chart::Answer;
 use grid::SheetRecord;
 use libc::STDERR_FILENO;
@@ -56,21 +66,37 @@ fn put_head(width: u32, height: u32) {
     put(b" fill=\"white\"/>\n");
 }
 
+// Puts the text of a sound sheet at the buffer's start and answers its length. None is refused: such a text has at most 9,887 bytes.
+fn write_text(s: SheetRecord, buf: &mut [u8]) -> usize
+    requires { ⌜ soundOf s ≡ true ⌝ }
+    requires { ⌜ 9887 ≤ length (now buf) ⌝ }
+    ensures { λ n. ⌜ IsWritten s (now (buf .entry)) (Written.Done n) (now (buf .exit)) ⌝ }
+    ensures { λ n. ⌜ Counts n (now (buf .exit)) ⌝ }
+{
+    let written = path::write_sheet(s, buf);
+    let Written::Done(n) = written else {
+        // Never reached.
+        return 0;
+    };
+    n
+}
+
 // The sheet's path; an empty one has an empty `d`, which draws nothing.
-fn put_path(s: SheetRecord) {
+fn put_path(s: SheetRecord)
+    requires { ⌜ soundOf s ≡ true ⌝ }
+{
     put(b"<path d=\"");
     let mut text = io::large_buffer();
-    let written = path::write_sheet(s, &mut text);
-    if let Written::Done(n) = written {
-        if n <= 65536 {
-            put(&text[..n]);
-        }
-    }
+    let n = write_text(s, &mut text);
+    put(&text[..n]);
     put(b"\" fill=\"none\" stroke=\"black\" stroke-width=\"24\"/>\n");
 }
 
-// A label: its place is the left end of its baseline, and it is as wide as the layout has it, whatever the font.
+// A label, unless its text is empty: its place is the left end of its baseline, and it is as wide as the layout has it, whatever the font.
 fn put_label(l: LabelAnswer, text: &[u8]) {
+    if text.len() == 0 {
+        return;
+    }
     put(b"<text");
     put_attribute(b"x", l.x);
     put_attribute(b"y", l.y);
@@ -81,18 +107,17 @@ fn put_label(l: LabelAnswer, text: &[u8]) {
     put(b"</text>\n");
 }
 
-// Label i of box k, unless its text is empty. Whether there is such a label.
-fn draw_label(chart: &[u8], k: usize, i: usize) -> bool {
+// Label i of box k. Whether there is such a label: of a chart that has a sheet, one that is refused isn't there.
+fn draw_label(chart: &[u8], k: usize, i: usize) -> bool
+    ensures { λ r. ⌜ ((sh : Sheet) → sheeted (now (chart .entry)) 0 0 ≡ ready sh → r ≡ labelOf sh k i .found) ⌝ }
+{
     let table =
         b"#0#1#2#3#4#5#6#7#8#9#10#11#12#13#14#15#16#17#18#19#20#21#22#23#24#25#26#27#28#29#30#31";
     let l = path::label_place(chart, 0, 0, table, k, i);
     let a = l.answer;
     match a {
         Answer::Ready => {
-            let text = path::label_part(chart, 0, 0, table, k, i);
-            if 0 < text.len() {
-                put_label(l, text);
-            }
+            put_label(l, path::label_part(chart, 0, 0, table, k, i));
             true
         }
         Answer::Refused(_, _) => false,
@@ -119,7 +144,9 @@ fn draw_labels(chart: &[u8], count: u8) {
     }
 }
 
-fn draw_sheet(chart: &[u8], s: SheetRecord) {
+fn draw_sheet(chart: &[u8], s: SheetRecord)
+    requires { ⌜ soundOf s ≡ true ⌝ }
+{
     put_head(s.width, s.height);
     put_path(s);
     put(b"<g font-family=\"monospace\">\n");

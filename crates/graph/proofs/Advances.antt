@@ -14,9 +14,10 @@ use Rattle.graph.specs.declared.Tables.{Tables}
 use Rattle.graph.specs.declared.cutting.Look.{Look}
 use Rattle.graph.specs.Graph.{Edge, noEdge, nodeAt, degree}
 use Rattle.graph.specs.Cutting.{Walk, cut, cutGraph, seeing, exploreFrom}
-use Rattle.graph.specs.Path.{unseens}
-use Rattle.graph.specs.Tables.{owned, edgeOf, noItem, itemsOf, linesOf, graphOf, Sunk, CutTo}
-use Rattle.graph.specs.Explore.{Explore, noLook, looks, resume, Within, walkOf, answer, Ready, Kept}
+use Rattle.graph.specs.code.Path.{unseens}
+use Rattle.graph.specs.code.Tables.{owned, edgeOf, itemsOf, linesOf, graphOf, Sunk, CutTo}
+use Rattle.graph.specs.Outcome.{noItem}
+use Rattle.graph.specs.code.Explore.{Explore, noLook, looks, resume, Within, walkOf, answer, Ready, Kept}
 use Rattle.graph.proofs.Lists.{unseens-set, unseens-fall, unseens-append, node-graph, table-size, table-at}
 use Rattle.graph.proofs.Cuts.{sunk-is, sunk-less, owned-le, aimed-at, take-two, length-graph}
 use Rattle.graph.proofs.Resumes.{length-cut, resume-leave, resume-pass, resume-cut, resume-go, resume-enter, resume-grown}

@@ -18,10 +18,12 @@ use Rattle.chart.specs.declared.Answer.the-variants.{Ready, Refused}
 use Rattle.chart.specs.declared.Outcome.{Outcome as BoardOutcome}
 use Rattle.chart.specs.Chart.{Board, ready as accepted, refusal as refused, chart}
 use Rattle.chart.specs.Chart.{Node as GivenNode}
-use Rattle.chart.specs.Tables.{noLine, linesOf as textsOf, ownedLines, lineOf, boardFrom, boardOf, linesFrom}
-use Rattle.chart.specs.Tables.{itemsOf as endsOf, owned as ownedEnds, nodeOf as givenNodeOf}
+use Rattle.chart.specs.Tables.{noLine, lineOf, linesFrom}
+use Rattle.chart.specs.code.Filled.{linesOf as textsOf, ownedLines, boardFrom, boardOf}
+use Rattle.chart.specs.code.Filled.{itemsOf as endsOf, owned as ownedEnds, nodeOf as givenNodeOf}
 use Rattle.chart.specs.Accepted.{Formed, Accepted}
-use Rattle.chart.specs.Read.{Joins, Sound as SoundBoard, reading, readOf, IsRead, Reads}
+use Rattle.chart.specs.Read.{IsRead}
+use Rattle.chart.specs.code.Reads.{Joins, Sound as SoundBoard, reading, readOf, Reads}
 use Rattle.chart.proofs.Held.{tables-held, lines-count}
 use Rattle.chart.proofs.Accepts.{accepted as accepts, reads-of}
 use Rattle.graph.specs.declared.Item.{Item}
@@ -32,9 +34,10 @@ use Rattle.graph.specs.Graph.{given, number, Graph, unmarked, givenNode,
 use Rattle.graph.specs.Completion.{complete}
 use Rattle.graph.specs.Cutting.{Walk, cutting}
 use Rattle.graph.specs.Graphed.{dagOf, ready, refusal, boxed, graphed}
-use Rattle.graph.specs.Tables.{owned, itemsOf, unmarkedItem, nodeOf, linesAt, linesOf, graphFrom, graphOf, Below, Aimed, Completed}
-use Rattle.graph.specs.Explore.{Explore, walkOf, CutAll}
-use Rattle.graph.specs.Outcome.{textsFrom, namesOf, sourcesFrom, sinksFrom, tableOf, tablesOf, noNodes, IsAnswer, inOrder, orderedOf, Held, Begun}
+use Rattle.graph.specs.code.Tables.{owned, itemsOf, unmarkedItem, nodeOf, linesAt, linesOf, graphFrom, graphOf, Below, Aimed, Completed}
+use Rattle.graph.specs.code.Explore.{Explore, walkOf, CutAll}
+use Rattle.graph.specs.Outcome.{textsFrom, namesOf, sourcesFrom, sinksFrom, tableOf, tablesOf}
+use Rattle.graph.specs.code.Graphs.{noNodes, IsAnswer, inOrder, orderedOf, Held, Begun}
 use Rattle.graph.proofs.Cuts.{length-graph}
 use Rattle.graph.proofs.LineLaws.{board-lined}
 use Rattle.graph.proofs.Orders.{sources-ordered, sinks-ordered, names-held, texts-held, done-linked, done-graph}

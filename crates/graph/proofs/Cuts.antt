@@ -15,13 +15,14 @@ use borrow.Author.Tests.{eq-eqb, ne-eqb, eqb-true}
 use Rattle.laws.specs.Lists.{keep, one, tabulate}
 use Rattle.laws.proofs.Lists.{length-tabulate, all-map, tabulate-set, tabulate-same, tabulate-snoc}
 use Rattle.chart.specs.declared.Line.{Line as LineItem}
-use Rattle.chart.specs.Tables.{linesOf as textsOf, ownedLines}
+use Rattle.chart.specs.code.Filled.{linesOf as textsOf, ownedLines}
 use Rattle.graph.specs.declared.Item.{Item}
 use Rattle.graph.specs.declared.Table.{Table}
 use Rattle.graph.specs.declared.Tables.{Tables}
 use Rattle.graph.specs.Graph.{Edge, Node, Graph, Line, number, noText, none?, nodeAt, withSources, withSinks}
 use Rattle.graph.specs.Cutting.{cutGraph, turned, pointed, secondNode}
-use Rattle.graph.specs.Tables.{sourceOf, sinkOf, owned, markOf, edgeOf, nodeOf, graphFrom, noItem, Below, Aimed, Roomy, Sunk, CutTo, Linked, Texted, itemsOf, linesAt, linesOf, graphOf, pointItem, turnItem}
+use Rattle.graph.specs.code.Tables.{sourceOf, sinkOf, owned, markOf, edgeOf, nodeOf, graphFrom, Below, Aimed, Roomy, Sunk, CutTo, Linked, Texted, itemsOf, linesAt, linesOf, graphOf, pointItem, turnItem}
+use Rattle.graph.specs.Outcome.{noItem}
 use Rattle.graph.proofs.Lists.{node-graph}
 use Rattle.graph.proofs.Gains.{owned-join, owned-new, owned-old}
 

@@ -11,7 +11,7 @@ use borrow.Author.Tests.{eqb-true, ltb-true, ltb-false}
 use Rattle.laws.specs.Each.{each}
 use Rattle.graph.specs.Graph.{Edge, Graph, noEdge, nodeAt, degree, none?}
 use Rattle.graph.specs.Cutting.{Walk, markSinks, markFrom, markRoot, reached, cut, seeing, look, exploreSinks, exploreFrom, start, beginning, cutting, unseen, onPath, explored, seenAt}
-use Rattle.graph.specs.Path.{unseens}
+use Rattle.graph.specs.code.Path.{unseens}
 use Rattle.graph.proofs.Lists.{unseens-le, unseens-set, unseens-fall, unseens-append}
 use Rattle.graph.proofs.Steps.{mark-seen}
 use Rattle.graph.proofs.Keeps.{pick, reached-long}

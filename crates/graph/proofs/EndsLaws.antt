@@ -17,10 +17,12 @@ use Rattle.graph.specs.declared.Tables.{Tables}
 use Rattle.graph.specs.declared.Outcome.{Outcome}
 use Rattle.graph.specs.Graph.{Edge}
 use Rattle.graph.specs.Graphed.{Graphed, ready, refusal, graphed}
-use Rattle.graph.specs.Outcome.{sourcesFrom, sinksFrom, outcomeOf, Graphs}
+use Rattle.graph.specs.Outcome.{sourcesFrom, sinksFrom, outcomeOf}
+use Rattle.graph.specs.code.Graphs.{Graphs}
 use Rattle.graph.specs.Shape.{targets, incidentsOf, shapeOf}
 use Rattle.graph.specs.Ends.{endsIn, targetsOf, endsOf, incidentsIn, shapeFrom, Linked}
-use Rattle.graph.specs.Tables.{noItem, edgeOf, owned, itemsOf, nodeOf, linesOf, graphFrom, graphOf, Below, Aimed}
+use Rattle.graph.specs.code.Tables.{edgeOf, owned, itemsOf, nodeOf, linesOf, graphFrom, graphOf, Below, Aimed}
+use Rattle.graph.specs.Outcome.{noItem}
 
 -- ---- the shape
 map-keep : {A B : Type 0} (f : A → B) (b : Bool) (x : A) (l : List A) → map f (keep b x l) ≡ keep b (f x) (map f l)

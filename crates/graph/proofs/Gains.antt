@@ -15,7 +15,7 @@ use Rattle.laws.proofs.Lists.{tabulate-set, owned-append}
 use Rattle.graph.specs.declared.Item.{Item}
 use Rattle.graph.specs.Graph.{Node, Line, hasMarked, noText}
 use Rattle.graph.specs.Completion.{gainSource}
-use Rattle.graph.specs.Tables.{owned, edgeOf, sourceOf, gained, nodeOf, graphFrom}
+use Rattle.graph.specs.code.Tables.{owned, edgeOf, sourceOf, gained, nodeOf, graphFrom}
 use Rattle.graph.proofs.Lists.{node-graph}
 
 pub owned-join : (p : ℕ) (xs ys : List Item) → owned p (xs ++ ys) ≡ owned p xs ++ owned p ys

@@ -26,9 +26,10 @@ use Rattle.graph.specs.Graph.{Line, given, Edge, Node, Graph, noText, no
 use Rattle.graph.specs.Completion.{gainSource, marked, gainSink, complete}
 use Rattle.graph.specs.Cutting.{Walk, turned, pointed, firstNode, secondNode, cutGraph, cutting}
 use Rattle.graph.specs.Graphed.{Dag, dagOf, ready, refusal, boxed, drawn, graphed}
-use Rattle.graph.specs.Tables.{itemsOf, Linked}
+use Rattle.graph.specs.code.Tables.{itemsOf, Linked}
 use Rattle.graph.specs.Laws.{Aimed, SinkAt, Names, Marked, Unmarked, ends, Named, Laws, Walks}
-use Rattle.graph.specs.Outcome.{heldMark, itemOf, sourcesFrom, sinksFrom, textsFrom, nameOf, namesOf, tablesOf, noNodes, outcomeOf, dagIn, graphedOf, Sound, IsGraph, Graphs, IsAnswer}
+use Rattle.graph.specs.Outcome.{heldMark, itemOf, sourcesFrom, sinksFrom, textsFrom, nameOf, namesOf, tablesOf, outcomeOf, IsGraph}
+use Rattle.graph.specs.code.Graphs.{noNodes, dagIn, graphedOf, Sound, Graphs, IsAnswer}
 use Rattle.graph.proofs.Keeps.{pick, cutting-keeps}
 use Rattle.graph.proofs.Completes.{SourceAt, complete-holds}
 use Rattle.graph.proofs.LineLaws.{linesIn, complete-length, Lined, board-lined}

@@ -16,7 +16,8 @@ use Rattle.graph.specs.declared.Table.{Table}
 use Rattle.graph.specs.declared.Tables.{Tables}
 use Rattle.graph.specs.Graph.{Edge, hasMarked, leadsTo}
 use Rattle.graph.specs.Completion.{completeSinks}
-use Rattle.graph.specs.Tables.{owned, edgeOf, sourceOf, gained, graphFrom, graphOf, linesOf, itemsOf, noItem, Aimed, Below, Sinked, Paired, bares, Fit, SinksDone}
+use Rattle.graph.specs.code.Tables.{owned, edgeOf, sourceOf, gained, graphFrom, graphOf, linesOf, itemsOf, Aimed, Below, Sinked, Paired, bares, Fit, SinksDone}
+use Rattle.graph.specs.Outcome.{noItem}
 use Rattle.graph.proofs.Lists.{node-graph, owned-end, owned-other, owned-own, table-size, table-at}
 use Rattle.graph.proofs.Gains.{gain-graph}
 use Rattle.graph.proofs.Cuts.{aimed-at, aimed-one, below-one, counted-own, counted-other}

@@ -16,8 +16,9 @@ use Rattle.laws.proofs.Lists.{getD-tabulate}
 use Rattle.graph.specs.declared.Item.{Item}
 use Rattle.graph.specs.declared.Table.{Table}
 use Rattle.graph.specs.Graph.{Edge, Line, nodeAt, bare, isMark, hasMarked, leadsTo}
-use Rattle.graph.specs.Tables.{owned, markOf, edgeOf, noItem, itemsOf, graphFrom, nodeOf}
-use Rattle.graph.specs.Path.{unseens}
+use Rattle.graph.specs.code.Tables.{owned, markOf, edgeOf, itemsOf, graphFrom, nodeOf}
+use Rattle.graph.specs.Outcome.{noItem}
+use Rattle.graph.specs.code.Path.{unseens}
 
 tally-both : (b : Bool) {m n : ℕ} → suc m ≡ n → suc (tally b m) ≡ tally b n
 tally-both true e = ap suc e

@@ -15,7 +15,8 @@ use borrow.Author.Tests.{eq-eqb, ne-eqb, eqb-true, eqb-false}
 use Rattle.laws.specs.Lists.{keep, one, tally}
 use Rattle.graph.specs.declared.Item.{Item}
 use Rattle.graph.specs.Graph.{Edge, isMark, leadsTo, hasMarked}
-use Rattle.graph.specs.Tables.{owned, edgeOf, markOf, noItem, markItem, sinkOf, sourceOf, Sunk, bares, Sinked, Paired, Bare, dues}
+use Rattle.graph.specs.code.Tables.{owned, edgeOf, markOf, markItem, sinkOf, sourceOf, Sunk, bares, Sinked, Paired, Bare, dues}
+use Rattle.graph.specs.Outcome.{noItem}
 
 pub false-true : {A : Type 0} → false ≡ true → A
 false-true e = absurd (subst T (sym e) tt)

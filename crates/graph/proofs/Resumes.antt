@@ -12,7 +12,7 @@ use borrow.Author.Tests.{eq-eqb, ne-eqb}
 use Rattle.graph.specs.declared.cutting.Look.{Look}
 use Rattle.graph.specs.Graph.{Edge, Node, Graph, noEdge, bare, nodeAt, degree}
 use Rattle.graph.specs.Cutting.{Walk, cut, cutGraph, look, exploreFrom, exploreSinks, seeing, seenAt, unseen, onPath, explored}
-use Rattle.graph.specs.Explore.{rest, resume}
+use Rattle.graph.specs.code.Explore.{rest, resume}
 
 -- what no step of the walk undoes: the graph does not shrink, and a node keeps the number of its sinks
 pub record Grown (g h : Graph) : Type 0 where

@@ -18,8 +18,8 @@ use Rattle.graph.specs.declared.Tables.{Tables}
 use Rattle.graph.specs.declared.cutting.Look.{Look}
 use Rattle.graph.specs.Graph.{Node, Graph, none?}
 use Rattle.graph.specs.Cutting.{Walk, markFrom, markRoot, reached, seenAt, exploreFrom, start, beginning, cutting}
-use Rattle.graph.specs.Tables.{owned, itemsOf, linesOf, graphOf, Roomy}
-use Rattle.graph.specs.Explore.{Explore, walkOf, Ready, Walked}
+use Rattle.graph.specs.code.Tables.{owned, itemsOf, linesOf, graphOf, Roomy}
+use Rattle.graph.specs.code.Explore.{Explore, walkOf, Ready, Walked}
 use Rattle.graph.proofs.Lists.{node-graph, unseens-le}
 use Rattle.graph.proofs.Cuts.{length-graph}
 use Rattle.graph.proofs.Resumes.{Grown, grown-refl, grown-trans, from-grown}

@@ -14,7 +14,7 @@ use Rattle.graph.specs.declared.Table.{Table}
 use Rattle.graph.specs.declared.Tables.{Tables}
 use Rattle.graph.specs.Graph.{Graph, nodeAt}
 use Rattle.graph.specs.Completion.{completeSources, completeNode, complete}
-use Rattle.graph.specs.Tables.{owned, itemsOf, graphOf, linesOf, dues, Fit, SinksDone, SourcesDone, SameBut, Charted, Completed}
+use Rattle.graph.specs.code.Tables.{owned, itemsOf, graphOf, linesOf, dues, Fit, SinksDone, SourcesDone, SameBut, Charted, Completed}
 use Rattle.graph.proofs.Lists.{table-size}
 use Rattle.graph.proofs.Cuts.{length-graph}
 use Rattle.graph.proofs.Sinks.{same-refl, same-trans}

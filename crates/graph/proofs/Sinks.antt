@@ -17,7 +17,8 @@ use Rattle.graph.specs.declared.Table.{Table}
 use Rattle.graph.specs.declared.Tables.{Tables}
 use Rattle.graph.specs.Graph.{Edge, Node, Graph, Line, noText, nodeAt, leadsTo, withSources, withSinks}
 use Rattle.graph.specs.Completion.{marked, gainSink, completeSources}
-use Rattle.graph.specs.Tables.{owned, edgeOf, markOf, nodeOf, graphFrom, graphOf, linesOf, itemsOf, noItem, markItem, sinkOf, Sunk, Linked, Fit, SinkGained, SameBut, bares}
+use Rattle.graph.specs.code.Tables.{owned, edgeOf, markOf, nodeOf, graphFrom, graphOf, linesOf, itemsOf, markItem, sinkOf, Sunk, Linked, Fit, SinkGained, SameBut, bares}
+use Rattle.graph.specs.Outcome.{noItem}
 use Rattle.graph.proofs.Lists.{node-graph, owned-end, owned-other, owned-own, table-size, table-at}
 use Rattle.graph.proofs.Gains.{owned-new, owned-old}
 use Rattle.graph.proofs.Cuts.{mark-graph, aimed-at, aimed-set, aimed-one, below-set, below-one, counted-own, counted-other}

@@ -16,8 +16,9 @@ use Rattle.graph.specs.declared.reach.Path.{Path}
 use Rattle.graph.specs.declared.reach.Frame.{Frame}
 use Rattle.graph.specs.Graph.{Edge, Graph}
 use Rattle.graph.specs.Cutting.{markFrom, markSinks}
-use Rattle.graph.specs.Tables.{Linked, owned, edgeOf, noItem, itemsOf, linesOf, graphOf}
-use Rattle.graph.specs.Path.{noFrame, unseens, looks, resume, answer, seenOf, Good, Stepped}
+use Rattle.graph.specs.code.Tables.{Linked, owned, edgeOf, itemsOf, linesOf, graphOf}
+use Rattle.graph.specs.Outcome.{noItem}
+use Rattle.graph.specs.code.Path.{noFrame, unseens, looks, resume, answer, seenOf, Good, Stepped}
 use Rattle.graph.proofs.Cuts.{aimed-at}
 use Rattle.graph.proofs.Lists.{table-at, unseens-set, unseens-le, owned-other, owned-own, owned-end, node-graph}
 

@@ -15,7 +15,8 @@ use Rattle.laws.proofs.Lists.{all-map, all-flat, owned-flat, tabulate-list, get
 use Rattle.chart.specs.declared.Line.{Line as LineItem}
 use Rattle.chart.specs.Chart.{Part, Board}
 use Rattle.chart.specs.Chart.{Node as GivenNode}
-use Rattle.chart.specs.Tables.{noLine, partOf, lineOf, ownedLines, linesOf as textsOf}
+use Rattle.chart.specs.Tables.{noLine, lineOf}
+use Rattle.chart.specs.code.Filled.{partOf, ownedLines, linesOf as textsOf}
 use Rattle.chart.specs.Accepted.{Fitting, Formed, Accepted}
 use Rattle.chart.proofs.Accepts.{accepted as accepts}
 use Rattle.graph.specs.declared.Item.{Item}
@@ -26,8 +27,9 @@ use Rattle.graph.specs.Completion.{complete}
 use Rattle.graph.specs.Cutting.{cutting}
 use Rattle.graph.specs.Graphed.{Dag, Graphed, ready, refusal, graphed}
 use Rattle.graph.specs.Laws.{Named, Laws}
-use Rattle.graph.specs.Tables.{markOf, edgeOf, owned, itemsOf, nodeOf, numberLine, linesAt, linesOf, graphFrom, graphOf, Linked}
-use Rattle.graph.specs.Outcome.{heldMark, itemOf, sourcesFrom, sinksFrom, textsIn, textsFrom, nameOf, namesOf, tablesOf, noNodes, outcomeOf, IsGraph, Graphs, IsAnswer}
+use Rattle.graph.specs.code.Tables.{markOf, edgeOf, owned, itemsOf, nodeOf, numberLine, linesAt, linesOf, graphFrom, graphOf, Linked}
+use Rattle.graph.specs.Outcome.{heldMark, itemOf, sourcesFrom, sinksFrom, textsIn, textsFrom, nameOf, namesOf, tablesOf, outcomeOf, IsGraph}
+use Rattle.graph.specs.code.Graphs.{noNodes, Graphs, IsAnswer}
 use Rattle.graph.proofs.AimLaws.{all-in}
 use Rattle.graph.proofs.Orders.{table-back}
 use Rattle.graph.proofs.Begins.{few-lines, none-answers}

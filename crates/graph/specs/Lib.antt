@@ -7,7 +7,5 @@ pub mod Shape
 pub mod Ends
 pub mod Laws
 pub mod Cases
-pub mod Tables
 pub mod Outcome
-pub mod Path
-pub mod Explore
+pub mod code

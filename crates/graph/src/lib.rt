@@ -1,12 +1,13 @@
 // Document 01, modules 2 and 3: the graph of a chart, completed and cut, as tables of records, each record with the node that owns it.
 // A node's list is its records in table order.
 ghost use mathlib.Core.Path.{_≡_};
-ghost use Rattle.chart.specs.Tables.{boardOf};
+ghost use Rattle.chart.specs.code.Filled.{boardOf};
 ghost use Rattle.graph.specs.Graph.{givenGraph};
 ghost use Rattle.graph.specs.Completion.{complete};
 ghost use Rattle.graph.specs.Cutting.{cutting};
 ghost use Rattle.graph.specs.Graphed.{boxed, refusal};
-ghost use Rattle.graph.specs.Outcome.{Held, IsAnswer, IsGraph};
+ghost use Rattle.graph.specs.Outcome.{IsGraph};
+ghost use Rattle.graph.specs.code.Graphs.{Held, IsAnswer};
 ghost use Rattle.graph.specs.Ends.{endsIn};
 use chart::Answer;
 use chart::Board;

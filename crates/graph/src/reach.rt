@@ -3,7 +3,7 @@ ghost use mathlib.Core.Path.{_≡_};
 ghost use Prim.Native.Nat.{_<_, _≤_};
 ghost use mathlib.Core.Bool.{not};
 ghost use lib.ListN.{take};
-ghost use Rattle.graph.specs.Tables.{Linked, graphOf, itemsOf, owned};
+ghost use Rattle.graph.specs.code.Tables.{Linked, graphOf, itemsOf, owned};
 ghost use Rattle.graph.specs.Graph.{none?};
 ghost use Rattle.graph.specs.Cutting.{markFrom, reached};
 use crate::Table;

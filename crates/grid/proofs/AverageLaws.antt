@@ -14,7 +14,7 @@ use Rattle.laws.proofs.Tests.{and-false}
 use Rattle.laws.proofs.Lists.{drop-down, drop-end}
 use Rattle.grid.specs.Lists.{orElse}
 use Rattle.grid.specs.Columns.{at, nearer, rightOf, rightEnd, leftEnd, clamp, averageTo}
-use Rattle.grid.specs.Arrays.{Boxes}
+use Rattle.grid.specs.code.Arrays.{Boxes}
 use Rattle.grid.proofs.ListLaws.{set-first}
 use Rattle.grid.proofs.ColumnLaws.{Beyond, Under, left-most, right-beyond, right-under, end-least}
 

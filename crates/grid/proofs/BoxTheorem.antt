@@ -9,7 +9,7 @@ use Rattle.graph.specs.Graph.{Graph}
 use Rattle.graph.specs.Shape.{shapeOf, incidentsOf}
 use Rattle.grid.specs.Lists.{largest}
 use Rattle.grid.specs.Columns.{columns}
-use Rattle.grid.specs.Placed.{Placed, FirstColumns}
+use Rattle.grid.specs.code.Placed.{Placed, FirstColumns}
 use Rattle.grid.specs.Heights.{heights}
 use Rattle.grid.specs.RenderGrid.{sheetOf, sheet, widths, tallnesses}
 use Rattle.grid.proofs.SheetTheorem.{SheetTheorem, Small}

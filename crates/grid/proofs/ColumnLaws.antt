@@ -18,7 +18,7 @@ use Rattle.graph.specs.Shape.{Shape}
 use Rattle.laws.specs.Each.{each}
 use Rattle.grid.specs.Lists.{largest, smallest}
 use Rattle.grid.specs.Columns.{at, taken, incidents, columnsOf, target, goTo, firstMove, firstMoves, clash, collision, extra, newColumns, renamed, pairsFrom, table, foldFrom, mean, nearer, rightOf, rightEnd, leftEnd, clamp, averageTo, averageOne, average, round, columns}
-use Rattle.grid.specs.Placed.{Placed, FirstColumns}
+use Rattle.grid.specs.code.Placed.{Placed, FirstColumns}
 use Rattle.grid.proofs.ListLaws.{or-right, at-largest, smallest-le, at-map, everywhere, store-below}
 use Rattle.laws.proofs.Each.{keeps}
 

@@ -10,12 +10,12 @@ use lib.Dec.{eqb, ltb}
 use lib.ListN.{set}
 use borrow.Author.Tests.{ltb-true}
 use Rattle.graph.specs.Graph.{Edge}
-use Rattle.graph.specs.Tables.{markOf}
+use Rattle.graph.specs.code.Tables.{markOf}
 use Rattle.grid.specs.declared.Curve.{Curve}
 use Rattle.grid.specs.declared.render_grid.Curves.{Curves}
 use Rattle.grid.specs.RenderNode.{Input, Output, endWidth, outputsAt}
 use Rattle.grid.specs.Curves.{outputAt, firstTo, outputFor, curveIf}
-use Rattle.grid.specs.Laid.{foundOf, curveOf, added, addAll}
+use Rattle.grid.specs.code.Laid.{foundOf, curveOf, added, addAll}
 
 -- a sink is passed over
 pub marked-next : (gap x y : ℕ) (e : Edge) (es : List Edge) (left : ℕ) → (left ≡ 0 → ⊥) →

@@ -16,7 +16,7 @@ use Rattle.laws.proofs.Tests.{and-false, or-false, or-assoc, same?}
 use Rattle.laws.proofs.Lists.{length-tabulate, getD-tabulate, take-replicate}
 use Rattle.grid.specs.Lists.{largest}
 use Rattle.grid.specs.Columns.{at, taken, clash, collision, extra, newColumns, pairsFrom, table, foldFrom}
-use Rattle.grid.specs.Arrays.{inColumn, tableTo, nextNew}
+use Rattle.grid.specs.code.Arrays.{inColumn, tableTo, nextNew}
 use Rattle.grid.proofs.ListLaws.{or-right, at-largest, largest-below}
 use Rattle.grid.proofs.ColumnLaws.{taken-at}
 

@@ -27,7 +27,7 @@ use Rattle.grid.specs.declared.Outcome.{Outcome}
 use Rattle.grid.specs.Lists.{largest}
 use Rattle.grid.specs.Heights.{heights}
 use Rattle.grid.specs.Columns.{at, columns}
-use Rattle.grid.specs.Placed.{FirstColumns}
+use Rattle.grid.specs.code.Placed.{FirstColumns}
 use Rattle.grid.specs.RenderNode.{Text, textLength, lineLength, endWidth, textIf, endTexts, lineTexts, linesHeight, innerWidth, centerWidth, inputY, centerY, outputY, boxWidth, boxHeight, sourceGap, sinkGap, firstX, drawn}
 use Rattle.grid.specs.RenderGrid.{Box, Sheet, begins, textMoved, widths, tallnesses, boxOf, sheetOf, sheet}
 use Rattle.grid.specs.Record.{boxesOf, soundOf}
@@ -37,7 +37,7 @@ use Rattle.grid.proofs.SheetTheorem.{edgeBytes}
 use Rattle.grid.specs.BoxTheorem.{BoxTheorem}
 use Rattle.grid.specs.LaidOut.{writtenLines, labelsFor, linesIn, LaidOut, shapeCut, IsSheet}
 use Rattle.grid.proofs.ListLaws.{largest-below}
-use Rattle.grid.proofs.HeightLaws.{heights-long, depth-enough}
+use Rattle.grid.proofs.HeightLaws.{heights-long, depth-enough, reached-rows}
 use Rattle.grid.proofs.BoxTheorem.{placed}
 use Rattle.grid.proofs.TextLaws.{bytes, bytes-kept, Blank, blank}
 use Rattle.grid.proofs.Sheets.{firsts-of, shape-long, never-14, Made}
@@ -271,5 +271,5 @@ is-sheet s x y r m =
       refused = λ a b e. ap (λ (u : Outcome). numbersOf (u .answer)) (m .whole ∙ ap (outcomeOf x y) e);
       laid = λ q. let o : Own s x y (r .sheet) = own s x y r (m .whole) q in laid-sheet s x y (o .sheet) (o .laid) (r .sheet) (o .is) (λ d e. m .boxes d e q);
       at-origin = λ d e p q. ap (λ (u : Outcome). u .answer) (m .whole) ∙ rw (p, q, never-14 s d e);
-      walks = λ ps e. record { cutting = board-walks ps; heights = depth-enough (shapeCut ps) };
+      walks = λ ps e. record { cutting = board-walks ps; heights = depth-enough (shapeCut ps); rows = λ p l. reached-rows (shapeCut ps) p l };
     }

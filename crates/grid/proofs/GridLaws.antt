@@ -12,7 +12,7 @@ use Rattle.laws.proofs.Tests.{less?}
 use Rattle.graph.specs.Graph.{Graph, nodeAt, bare}
 use Rattle.grid.specs.Lists.{largest}
 use Rattle.grid.specs.Columns.{at}
-use Rattle.grid.specs.Placed.{Placed}
+use Rattle.grid.specs.code.Placed.{Placed}
 use Rattle.grid.specs.RenderNode.{drawn, boxWidth, boxHeight}
 use Rattle.grid.specs.RenderGrid.{extent, begins, reach, Box, Sheet, boxAt, boxOf, widths, tallnesses, sheetOf}
 use Rattle.grid.proofs.SheetTheorem.{noBox, box, Names, Across, Down, SheetTheorem}

@@ -5,16 +5,17 @@ use Prim.Native.Nat.{ℕ, zero, suc, _+_, _-_, _*_, _≤_, _<_, min, max}
 use native.Mathlib.Omega.{arith}
 use native.Mathlib.Nat.{not-suc-le-zero}
 use mathlib.Core.Path.{_≡_, refl, ap, sym, _∙_, subst}
-use mathlib.Core.Option.{none, some}
+use mathlib.Core.Option.{Option, none, some}
 use mathlib.Core.Bool.{Bool, true, false, false≢true}
 use mathlib.Core.List.{List, [], _∷_}
 use lib.ListN.{length, getD, set, replicate, length-set, length-map, length-replicate, getD-replicate}
 use Rattle.graph.specs.Shape.{Incidents, Shape, incidentsAt}
 use Rattle.laws.specs.Each.{each}
+use Rattle.laws.specs.Lists.{All}
 use Rattle.grid.specs.Lists.{orElse, nothing}
 use Rattle.grid.specs.Columns.{at}
 use Rattle.grid.specs.Heights.{Rows, fresh, through, enter, walkFrom, leastRow, lower, lowered, reachedFrom, start, heights}
-use Rattle.grid.specs.Walk.{unseen}
+use Rattle.grid.specs.code.Walk.{unseen}
 use Rattle.grid.proofs.ListLaws.{at-map}
 use Rattle.laws.proofs.Each.{keeps}
 
@@ -147,6 +148,14 @@ module _ (g : Shape) (p : ℕ) (hp : p < length g) where
       let c = seen-le (reachedFrom g p) in
       within-wider 1 (2 * length g - 1) (w .low) (w .high) (reachedFrom g p)
       (omega (arith, c, w .higher, w .spread .few, w .spread .long)) (omega (arith, c, w .lower, w .spread .few, w .spread .long)) (w .spread .within)
+
+  pub reached-rows : All (λ (o : Option ℕ). o ≡ some 0 → ⊥) (reachedFrom g p)
+  reached-rows = go (reachedFrom g p) reached-positive
+    where
+      go : (v : Rows) → Within 1 (2 * length g - 1) v → All (λ (o : Option ℕ). o ≡ some 0 → ⊥) v
+      go [] w = tt
+      go (none ∷ v) w = ((λ e. let z : _≡_ {A = ℕ} 0 1 = cc in absurd (omega arith)), go v w)
+      go (some r ∷ v) w = ((λ e. let z : r ≡ 0 = cc in absurd (omega (arith, w .0))), go v (w .2))
 
 -- each row is below n
 abbrev pub Below : ℕ → Rows → Type 0

@@ -11,10 +11,10 @@ use borrow.Author.Tests.{ltb-true, ltb-false}
 use native.Mathlib.Nat.{zero-add}
 use Rattle.laws.specs.Lists.{tabulate, padded}
 use Rattle.laws.proofs.Lists.{length-tabulate, getD-tabulate, map-tabulate}
-use Rattle.chart.specs.Tables.{ownedLines, linesOf as textsOf′}
+use Rattle.chart.specs.code.Filled.{ownedLines, linesOf as textsOf′}
 use Rattle.graph.specs.declared.Tables.{Tables}
 use Rattle.graph.specs.Graph.{Line, given, number, Edge, Node, Graph, nodeAt}
-use Rattle.graph.specs.Tables.{owned, itemsOf, numberLine, linesAt, graphOf}
+use Rattle.graph.specs.code.Tables.{owned, itemsOf, numberLine, linesAt, graphOf}
 use Rattle.grid.specs.declared.LabelPlace.{LabelPlace}
 use Rattle.grid.specs.declared.label.Seek.{Seek}
 use Rattle.grid.specs.declared.render_node.RenderNode.{RenderNode}
@@ -24,8 +24,9 @@ use Rattle.grid.specs.RenderGrid.{textMoved, boxOf, sheetOf}
 use Rattle.grid.specs.Curves.{noOutputs, boxRecord, recordOf}
 use Rattle.grid.specs.declared.BoxRecord.{BoxRecord}
 use Rattle.grid.proofs.Arrays.{filled-at}
-use Rattle.grid.specs.Labels.{noLabel, placeFor, placeOf, labelAt, notHere, seek, nodeLabel, labelFrom, labelOf}
-use Rattle.grid.specs.Rendered.{renderOf}
+use Rattle.grid.specs.Labels.{noLabel, placeFor, placeOf, labelAt, labelOf}
+use Rattle.grid.specs.code.Sited.{notHere, seek, nodeLabel, labelFrom}
+use Rattle.grid.specs.code.Rendered.{renderOf}
 use Rattle.grid.proofs.NodeLaws.{node-is}
 
 pub seek-none : (i : ℕ) → seek [] i ≡ notHere i

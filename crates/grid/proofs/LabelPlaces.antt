@@ -23,8 +23,8 @@ use Rattle.graph.specs.declared.Outcome.{Outcome as Graphing}
 use Rattle.graph.specs.Graph.{Line, given, number, Edge, Node, Graph, noText, bare, unmarked, givenNode, givenGraph, nodeAt}
 use Rattle.graph.specs.Graphed.{Dag, Graphed, ready as cut, refusal as uncut, graphed}
 use Rattle.graph.specs.Shape.{shapeOf}
-use Rattle.graph.specs.Tables.{itemsOf, linesOf, graphOf}
-use Rattle.graph.specs.Outcome.{dagIn, Graphs}
+use Rattle.graph.specs.code.Tables.{itemsOf, linesOf, graphOf}
+use Rattle.graph.specs.code.Graphs.{dagIn, Graphs}
 use Rattle.graph.specs.Laws.{textsAt, Begins, Texts, Named, Laws}
 use Rattle.graph.proofs.AimLaws.{all-in}
 use Rattle.graph.proofs.Gathers.{graph-laws}
@@ -41,11 +41,12 @@ use Rattle.grid.specs.Columns.{columns}
 use Rattle.grid.specs.RenderNode.{Text, drawn, endTexts, textIf, lineTexts, textLength, endWidth, sourceGap, sinkGap, firstX, inputY, outputY, centerY, innerWidth, centerWidth}
 use Rattle.grid.specs.RenderGrid.{Sheet, textMoved, boxOf, sheetOf, sheet}
 use Rattle.grid.specs.Curves.{noOutputs, boxRecord, recordOf}
-use Rattle.grid.specs.Rendered.{Seated}
+use Rattle.grid.specs.code.Rendered.{Seated}
 use Rattle.grid.specs.Sheeted.{Sheeted, ready, refusal, within, drawn as drawnAt, sheetOfDag, sheeted, outcomeOf}
 use Rattle.grid.specs.BoxTheorem.{BoxTheorem}
 use Rattle.grid.proofs.Sheets.{Made}
-use Rattle.grid.specs.Labels.{placeOf, labelAt, labelOf, labelFrom, Sited}
+use Rattle.grid.specs.Labels.{placeOf, labelAt, labelOf}
+use Rattle.grid.specs.code.Sited.{labelFrom, Sited}
 use Rattle.grid.specs.Labelled.{ready as labels, refusal as unlabelled, labelIn, labelOn, labelled, labelOutcomeOf}
 use Rattle.grid.proofs.LabelLaws.{label-sheet}
 use Rattle.grid.proofs.TextLaws.{Blank, blank}

@@ -11,7 +11,7 @@ use lib.Seq.{getD-take, length-take-le}
 use Rattle.laws.specs.Lists.{All}
 use Rattle.grid.specs.Lists.{largest}
 use Rattle.grid.specs.RenderGrid.{extent, begins}
-use Rattle.grid.specs.Laid.{Bounded, runAt, Movable, Low}
+use Rattle.grid.specs.code.Laid.{Bounded, runAt, Movable, Low}
 use Rattle.grid.proofs.Arrays.{all-by}
 
 cond-le : (t : Bool) (a m : ℕ) → a ≤ m → cond t a 0 ≤ m

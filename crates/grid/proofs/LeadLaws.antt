@@ -18,7 +18,7 @@ use Rattle.order.specs.Claims.{Under}
 use Rattle.order.proofs.Legs.{sumTo}
 use Rattle.order.proofs.Pushed.{targets-next, under-targets, ends-few}
 use Rattle.grid.specs.Columns.{at}
-use Rattle.grid.specs.Leads.{part, leadsAt, shapeIn, Led}
+use Rattle.grid.specs.code.Leads.{part, leadsAt, shapeIn, Led}
 use Rattle.grid.proofs.Arrays.{all-at}
 
 -- of more records a node owns no fewer

@@ -16,7 +16,7 @@ use Rattle.laws.proofs.Each.{next}
 use Rattle.grid.specs.Lists.{orElse}
 use Rattle.grid.specs.Columns.{at}
 use Rattle.grid.specs.Heights.{Rows, fresh, leastRow, lowered, reachedFrom, start, heights}
-use Rattle.grid.specs.Walk.{raised, rowIf, rowsIn, reachedIn, rowIn, rowsOf, least, lesserOf, lowerBy, AllNear, IsLeast, Above}
+use Rattle.grid.specs.code.Walk.{raised, rowIf, rowsIn, reachedIn, rowIn, rowsOf, least, lesserOf, lowerBy, AllNear, IsLeast, Above}
 use Rattle.laws.proofs.Lists.{drop-down, drop-end}
 use Rattle.grid.proofs.HeightLaws.{Within, reached-positive}
 use Rattle.grid.proofs.SignedLaws.{near-raised, least-raised, lesser-near, raised-le, lower-raised}

@@ -13,7 +13,7 @@ use Rattle.laws.proofs.Tests.{and-false}
 use Rattle.graph.specs.Shape.{Shape}
 use Rattle.grid.specs.Lists.{largest, smallest}
 use Rattle.grid.specs.Columns.{at, taken, columnsOf, incidents, target, goTo, firstMove}
-use Rattle.grid.specs.Leads.{part, shapeIn, Led}
+use Rattle.grid.specs.code.Leads.{part, shapeIn, Led}
 use Rattle.grid.proofs.ListLaws.{set-first}
 use Rattle.grid.proofs.PartLaws.{columns-are, columns-short, columns-long}
 

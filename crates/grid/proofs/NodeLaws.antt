@@ -9,15 +9,15 @@ use mathlib.Core.List.{List, [], _∷_, map}
 use lib.Dec.{eqb, ltb}
 use lib.ListN.{length, getD}
 use borrow.Author.Tests.{eq-eqb, ne-eqb, le-ltb}
-use Rattle.chart.specs.Tables.{linesOf as textsOf}
+use Rattle.chart.specs.code.Filled.{linesOf as textsOf}
 use Rattle.laws.proofs.Lists.{getD-tabulate, length-tabulate}
 use Rattle.graph.specs.declared.Tables.{Tables}
 use Rattle.graph.specs.Graph.{Edge, Line, number, Node, nodeAt}
-use Rattle.graph.specs.Tables.{owned, itemsOf, linesAt, linesOf, graphOf, graphFrom, nodeOf, numberLine}
+use Rattle.graph.specs.code.Tables.{owned, itemsOf, linesAt, linesOf, graphOf, graphFrom, nodeOf, numberLine}
 use Rattle.laws.specs.Lists.{one}
 use Rattle.graph.proofs.Lists.{node-graph}
 use Rattle.grid.specs.RenderNode.{separation, firstX, linesHeight, innerWidth, endsWidth, sourceGap, sinkGap}
-use Rattle.grid.specs.Rendered.{endsOf, centerOf, gapFrom, firstFrom, linesFrom, textFrom, emptyFrom, renderOf, renderFrom}
+use Rattle.grid.specs.code.Rendered.{endsOf, centerOf, gapFrom, firstFrom, linesFrom, textFrom, emptyFrom, renderOf, renderFrom}
 
 cond-le : (t : Bool) (a b m : ℕ) → a ≤ m → b ≤ m → cond t a b ≤ m
 cond-le true a b m h l = h

@@ -11,7 +11,7 @@ use lib.Seq.{sets, getD-set-same, getD-set-other}
 use Rattle.laws.specs.Lists.{tabulate}
 use Rattle.laws.proofs.Tests.{less?}
 use Rattle.graph.specs.Graph.{Graph, nodeAt}
-use Rattle.grid.specs.Rendered.{renderOf, numbersOf, Noted}
+use Rattle.grid.specs.code.Rendered.{renderOf, numbersOf, Noted}
 
 -- ---- numbers that are stored one after the other
 module _ {A : Type 0} (d : A) where

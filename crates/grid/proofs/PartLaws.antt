@@ -10,7 +10,7 @@ use lib.Seq.{drop-cons, drop-drop, take-add, getD-take, getD-drop, length-take-l
 use Rattle.graph.specs.Shape.{Incidents}
 use Rattle.grid.specs.Lists.{largest, total}
 use Rattle.grid.specs.Columns.{at, mean, columnsOf, incidents}
-use Rattle.grid.specs.Leads.{part, shapeIn, Led}
+use Rattle.grid.specs.code.Leads.{part, shapeIn, Led}
 use Rattle.grid.proofs.ListLaws.{largest-below, at-map}
 use Rattle.grid.proofs.LeadLaws.{leads-at, led-sources, led-sinks, led-within}
 

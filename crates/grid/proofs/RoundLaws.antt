@@ -13,8 +13,8 @@ use Rattle.laws.proofs.Tests.{pick}
 use Rattle.graph.specs.Shape.{Shape}
 use Rattle.grid.specs.Lists.{largest, smallest}
 use Rattle.grid.specs.Columns.{at, taken, columnsOf, incidents, target, goTo, firstMove, firstMoves, table, foldFrom, averageOne, mean, average, round, columns}
-use Rattle.grid.specs.Placed.{FirstColumns}
-use Rattle.grid.specs.Arrays.{Boxes, Inside}
+use Rattle.grid.specs.code.Placed.{FirstColumns}
+use Rattle.grid.specs.code.Arrays.{Boxes, Inside}
 use Rattle.grid.specs.Heights.{heights}
 use Rattle.grid.proofs.ListLaws.{everywhere, front-take, front-drop}
 use Rattle.grid.proofs.ColumnLaws.{Below, move-below, fold-below, average-below, table0-folds, table1-folds, first-placed, columns-placed}

@@ -17,7 +17,7 @@ use Rattle.laws.proofs.Lists.{length-tabulate, getD-tabulate, tabulate-same, ma
 use Rattle.graph.specs.declared.Item.{Item}
 use Rattle.graph.specs.declared.Tables.{Tables}
 use Rattle.graph.specs.Graph.{Edge, Node, nodeAt}
-use Rattle.graph.specs.Tables.{owned, edgeOf, itemsOf, linesOf, graphOf, graphFrom, nodeOf, dues, Aimed}
+use Rattle.graph.specs.code.Tables.{owned, edgeOf, itemsOf, linesOf, graphOf, graphFrom, nodeOf, dues, Aimed}
 use Rattle.graph.proofs.Lists.{node-graph}
 use Rattle.graph.proofs.Pairs.{dues-le}
 use Rattle.grid.specs.declared.BoxRecord.{BoxRecord}
@@ -32,8 +32,8 @@ use Rattle.grid.specs.Record.{noBox, noCurve}
 use Rattle.grid.specs.RenderNode.{Input, Output, drawn, boxWidth, boxHeight, endWidth, inputsAt, outputsAt}
 use Rattle.grid.specs.RenderGrid.{Box, Sheet, begins, reach, extent, widths, tallnesses, boxOf, sheetOf, inputMoved, outputMoved}
 use Rattle.grid.specs.Curves.{outputFor, curveIf, noOutputs, curvesTo, curvesFrom, curves, boxRecord, recordOf}
-use Rattle.grid.specs.Rendered.{Seated, AllModest, numbersOf, Noted, renderOf, inputsOf, outputsOf}
-use Rattle.grid.specs.Laid.{Bounded, sizesIn, beginsTo, boxFrom, boxesFrom, runAt, Movable, laidInputs, laidOutputs, noCurves, added, addAll, curvesOver, curvesAt}
+use Rattle.grid.specs.code.Rendered.{Seated, AllModest, numbersOf, Noted, renderOf, inputsOf, outputsOf}
+use Rattle.grid.specs.code.Laid.{Bounded, sizesIn, beginsTo, boxFrom, boxesFrom, runAt, Movable, laidInputs, laidOutputs, noCurves, added, addAll, curvesOver, curvesAt}
 use Rattle.grid.proofs.ListLaws.{at-largest}
 use Rattle.grid.proofs.Arrays.{filled-at, all-tabulate}
 use Rattle.grid.proofs.NodeLaws.{node-is, graph-long}

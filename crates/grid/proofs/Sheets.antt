@@ -21,8 +21,8 @@ use Rattle.graph.specs.Shape.{Shape, targets, incidentsOf, shapeOf}
 use Rattle.graph.specs.declared.Ends.{Ends}
 use Rattle.graph.specs.Ends.{endsIn, shapeFrom, Linked}
 use Rattle.graph.specs.Graphed.{Dag, Graphed, ready as cut, refusal as refused, graphed}
-use Rattle.graph.specs.Tables.{itemsOf, linesOf, graphOf}
-use Rattle.graph.specs.Outcome.{dagIn, Graphs}
+use Rattle.graph.specs.code.Tables.{itemsOf, linesOf, graphOf}
+use Rattle.graph.specs.code.Graphs.{dagIn, Graphs}
 use Rattle.graph.specs.Laws.{Aimed, Laws}
 use Rattle.graph.proofs.Gathers.{graph-laws}
 use Rattle.graph.proofs.Cuts.{length-graph}
@@ -37,10 +37,10 @@ use Rattle.grid.specs.declared.BoxRecord.{BoxRecord}
 use Rattle.grid.specs.declared.SheetRecord.{SheetRecord}
 use Rattle.grid.specs.Heights.{heights}
 use Rattle.grid.specs.Columns.{columns}
-use Rattle.grid.specs.Arrays.{Inside}
-use Rattle.grid.specs.Laid.{Bounded}
-use Rattle.grid.specs.Placed.{FirstColumns}
-use Rattle.grid.specs.Rendered.{Seated}
+use Rattle.grid.specs.code.Arrays.{Inside}
+use Rattle.grid.specs.code.Laid.{Bounded}
+use Rattle.grid.specs.code.Placed.{FirstColumns}
+use Rattle.grid.specs.code.Rendered.{Seated}
 use Rattle.grid.specs.RenderNode.{drawn, boxWidth, boxHeight}
 use Rattle.grid.specs.declared.Outcome.{Outcome}
 use Rattle.grid.specs.RenderGrid.{Box, Sheet, sheetOf, sheet}
@@ -48,7 +48,8 @@ use Rattle.grid.specs.Record.{noBox, noSheet}
 use Rattle.grid.specs.Curves.{boxRecord, recordOf}
 use Rattle.grid.specs.Cells.{cellAt, cellsIn, Named, Apart}
 use Rattle.grid.proofs.SheetTheorem.{SheetTheorem, noBox as noBoxed, box as boxIn}
-use Rattle.grid.specs.Sheeted.{ready, refusal, within, fitted, sheetOfDag, sheeted, outcomeOf, fittedOf, arrangedOf}
+use Rattle.grid.specs.Sheeted.{ready, refusal, within, fitted, sheetOfDag, sheeted, outcomeOf}
+use Rattle.grid.specs.code.Laid.{fittedOf, arrangedOf}
 use Rattle.grid.specs.BoxTheorem.{box, cell, Names, Across, Down, BoxTheorem}
 use Rattle.grid.proofs.HeightLaws.{heights-long}
 use Rattle.grid.proofs.ColumnLaws.{first-placed, columns-placed}
@@ -160,7 +161,7 @@ module _ (n cuts : ℕ) (g : Graph) (sh : Sheet) (t : SheetTheorem n cuts g sh) 
       }
 
 -- ---- what the lower crates promise
-module _ (s : List ℕ) (w : Graphing) (a : Graphs s w) (first : List ℕ) (f : first ≡ columnsIn (w .graph .n) (endsIn (w .graph .sources)) (endsIn (w .graph .sinks))) where
+module _ (s : List ℕ) (w : Graphing) (a : Graphs s w) (first : List ℕ) (f : first ≡ columnsIn (w .graph .n) (endsIn (w .graph .sources)) (endsIn (w .graph .sinks)) .columns) where
   abbrev t : Tables
   t = w .graph
 
@@ -297,7 +298,7 @@ module _ (s : List ℕ) (x y : ℕ) (w : Graphing) (a : Graphs s w) where
       let g : graphed s ≡ refused number second = sym (a .graphs) ∙ rw q in
       record { whole = rw g e; boxes = λ d h k. none-cut number second d (sym g ∙ h) }
 
-  module _ (cs : List ℕ) (q : cs ≡ columnsIn (w .graph .n) (endsIn (w .graph .sources)) (endsIn (w .graph .sinks))) (answered : w .answer ≡ Ready) where
+  module _ (cs : List ℕ) (q : cs ≡ columnsIn (w .graph .n) (endsIn (w .graph .sources)) (endsIn (w .graph .sinks)) .columns) (answered : w .answer ≡ Ready) where
     abbrev g : Graph
     g = graphOf (w .graph)
 
@@ -340,7 +341,7 @@ module _ (s : List ℕ) (x y : ℕ) (w : Graphing) (a : Graphs s w) where
         }
 
   -- either way
-  pub sheet-is : (cs : List ℕ) → cs ≡ columnsIn (w .graph .n) (endsIn (w .graph .sources)) (endsIn (w .graph .sinks)) → (r : Outcome) → r ≡ arrangedOf w cs x y → Made s x y r
+  pub sheet-is : (cs : List ℕ) → cs ≡ columnsIn (w .graph .n) (endsIn (w .graph .sources)) (endsIn (w .graph .sinks)) .columns → (r : Outcome) → r ≡ arrangedOf w cs x y → Made s x y r
   sheet-is cs q r e = go (w .answer) refl
     where
       go : (b : Answer) → w .answer ≡ b → Made s x y r

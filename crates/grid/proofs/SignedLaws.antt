@@ -12,10 +12,10 @@ use lib.Signed.{ltZ, leZ, nonNeg}
 use mir.Syntax.{w8}
 use mir.Val.{SFits, toZ, ofZ}
 use mir.Facts.{toZ-ofZ}
-use borrow.Author.Tests.{lt-ltb, le-ltb, le-leb, leb-true}
+use borrow.Author.Tests.{lt-ltb, le-ltb, le-leb, leb-true, ne-eqb}
 use Rattle.laws.proofs.Tests.{less?}
 use Rattle.grid.specs.Heights.{lower}
-use Rattle.grid.specs.Walk.{raised, rowIf, rowIn, rowBy, signedBy, least, lesserOf, lowerBy, Above}
+use Rattle.grid.specs.code.Walk.{raised, rowIf, rowIn, rowBy, signedBy, least, lesserOf, lowerBy, renumberedOf, Above}
 
 -- a row that an i8 holds
 pub fits : (z : ℤ) → natAbs z < 128 → SFits w8 z
@@ -119,6 +119,11 @@ lesser-back true z m h = ap (λ (y : ℤ). lesserOf true y m) (back z (omega (ar
 pub lower-back : (b : Bool) (z m : ℤ) (y : ℕ) → (b ≡ true → natAbs z ≤ 48) → lowerBy b (toZ w8 (ofZ w8 z)) m y ≡ lowerBy b z m y
 lower-back false z m y h = refl
 lower-back true z m y h = ap (λ (x : ℤ). lowerBy true x m y) (back z (omega (arith, h refl)))
+
+-- a lowered row goes before the one that stood
+pub renumbered-is : (b : Bool) (z m : ℤ) (y : ℕ) → renumberedOf (lowerBy b z m 0) y ≡ lowerBy b z m y
+renumbered-is false z m y = refl
+renumbered-is true z m y = rw (ne-eqb (lowerBy true z m 0) 0 (λ e. omega (arith, e)))
 
 pub above-back : (b : Bool) (z m : ℤ) → Above b z m → Above b (toZ w8 (ofZ w8 z)) (toZ w8 (ofZ w8 m))
 above-back b z m a =

@@ -27,7 +27,7 @@ use Rattle.grid.specs.declared.SheetRecord.{SheetRecord}
 use Rattle.grid.specs.declared.Outcome.{Outcome}
 use Rattle.grid.specs.Heights.{heights}
 use Rattle.grid.specs.Columns.{at, columns}
-use Rattle.grid.specs.Placed.{FirstColumns}
+use Rattle.grid.specs.code.Placed.{FirstColumns}
 use Rattle.grid.specs.RenderNode.{Input, Output, sourceGap, firstX, inputY, drawn, boxWidth, boxHeight}
 use Rattle.grid.specs.RenderGrid.{Box, Sheet, extent, begins, reach, inputMoved, outputMoved, widths, tallnesses, boxOf, sheetOf, sheet}
 use Rattle.grid.specs.Record.{noBox, noCurve, boxesOf, curvesOf, boxNear, curveNear, soundOf}

@@ -18,8 +18,8 @@ use Rattle.laws.proofs.Lists.{getD-any}
 use Rattle.grid.specs.Lists.{nothing}
 use Rattle.grid.specs.Columns.{at}
 use Rattle.grid.specs.Heights.{Rows, fresh, through, enter, walkFrom}
-use Rattle.grid.specs.Leads.{part, shapeIn, Led}
-use Rattle.grid.specs.Walk.{raised, rowIf, rowsIn, reachedIn, rowIn, rowsOf, rowBy, visits}
+use Rattle.grid.specs.code.Leads.{part, shapeIn, Led}
+use Rattle.grid.specs.code.Walk.{raised, rowIf, rowsIn, reachedIn, rowIn, rowsOf, rowBy, visits}
 use Rattle.grid.proofs.LeadLaws.{leads-at, led-sources, led-sinks, led-within}
 
 -- ---- a node's walk as visits

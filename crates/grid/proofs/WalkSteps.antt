@@ -20,8 +20,8 @@ use Rattle.grid.specs.declared.heights.Frame.{Frame}
 use Rattle.grid.specs.Lists.{nothing}
 use Rattle.grid.specs.Columns.{at}
 use Rattle.grid.specs.Heights.{Rows, fresh, enter, walkFrom, reachedFrom}
-use Rattle.grid.specs.Leads.{shapeIn, Led}
-use Rattle.grid.specs.Walk.{raised, reachedIn, noFrame, rowBy, signedBy, visits, onward, resume, unseen, looks, Path, reached, answer, Framed, Good, Stepped}
+use Rattle.grid.specs.code.Leads.{shapeIn, Led}
+use Rattle.grid.specs.code.Walk.{raised, reachedIn, noFrame, rowBy, signedBy, visits, onward, resume, unseen, looks, Path, reached, answer, Framed, Good, Stepped}
 use Rattle.grid.proofs.HeightLaws.{unseen-set, unseen-replicate}
 use Rattle.grid.proofs.SignedLaws.{raised-by, near-by}
 use Rattle.grid.proofs.LeadLaws.{leads-long, led-within}

@@ -1,6 +1,6 @@
 -- Document 01, module 6: heights.
 -- The document starts each walk at row 0, with signed rows; here it starts at the number of boxes, so that every row is a natural number. All that the walk
--- reaches is then lowered by the least row, so the start makes no difference; `reached-positive` of proofs/HeightLaws says that no row of a walk is 0,
+-- reaches is then lowered by the least row, so the start makes no difference; the field `rows` of `AllWalks` (specs/LaidOut) says that no row of a walk is 0,
 -- so that `row - 1` is never cut off.
 -- Assumes nothing.
 use Prim.Native.Nat.{ℕ, zero, suc, _+_, _-_, min}

@@ -1,18 +1,13 @@
 -- 'A label is an entry of its box's `text`, numbered from 0 in that order.'
 -- Assumes nothing.
-use Prim.Native.Nat.{ℕ, zero, suc, _-_, _≤_}
-use mathlib.Core.Bool.{true, false, cond}
-use mathlib.Core.List.{List, [], _∷_, map}
-use lib.Dec.{ltb}
-use lib.ListN.{length, getD}
-use Rattle.graph.specs.Graph.{Line, given, number, Node, Graph, nodeAt}
-use Rattle.grid.specs.declared.BoxRecord.{BoxRecord}
-use Rattle.grid.specs.declared.SheetRecord.{SheetRecord}
+use Prim.Native.Nat.{ℕ, zero, suc}
+use mathlib.Core.Bool.{true, false}
+use mathlib.Core.List.{List, [], _∷_}
+use lib.ListN.{getD}
+use Rattle.graph.specs.Graph.{Line, given, number}
 use Rattle.grid.specs.declared.LabelPlace.{LabelPlace}
-use Rattle.grid.specs.declared.label.Seek.{Seek}
-use Rattle.grid.specs.Record.{noBox}
-use Rattle.grid.specs.RenderNode.{Text, drawn}
-use Rattle.grid.specs.RenderGrid.{Sheet, textMoved}
+use Rattle.grid.specs.RenderNode.{Text}
+use Rattle.grid.specs.RenderGrid.{Sheet}
 use Rattle.grid.specs.Curves.{noOutputs}
 
 abbrev pub noLabel : LabelPlace
@@ -35,24 +30,3 @@ labelAt (t ∷ ts) (suc i) = labelAt ts i
 -- label i of box k of the sheet; all zero where it is not there
 abbrev pub labelOf : Sheet → ℕ → ℕ → LabelPlace
 labelOf s k i = labelAt (getD (s .boxes) k noOutputs .texts) i
-
--- ---- the same as the code looks for it
-
--- label i of a node whose box is at x and y
-abbrev pub nodeLabel : Node → ℕ → ℕ → ℕ → LabelPlace
-nodeLabel n x y i = labelAt (map (textMoved x y) (drawn n .texts)) i
-
--- label i of box k, with the places of a sheet's record
-abbrev pub labelFrom : Graph → ℕ → SheetRecord → ℕ → ℕ → LabelPlace
-labelFrom g n s k i = cond (ltb k n) (nodeLabel (nodeAt g k) (getD (s .boxes) k noBox .x) (getD (s .boxes) k noBox .y) i) noLabel
-
-abbrev pub notHere : ℕ → Seek
-notHere left = record { place = noLabel; left = left }
-
-abbrev pub seek : List Text → ℕ → Seek
-seek ts i = record { place = labelAt ts i; left = i - length ts }
-
--- the box's place is small enough for the sums
-pub record Sited (b : BoxRecord) : Type 0 where
-  pub across : b .x ≤ 1250000000
-  pub down : b .y ≤ 1250000000

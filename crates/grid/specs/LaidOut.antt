@@ -2,15 +2,15 @@
 -- Assumes nothing.
 use Prim.Native.Nat.{ℕ, suc, _+_, _*_, _≤_, _<_}
 use mathlib.Core.Path.{_≡_}
-use mathlib.Core.Option.{none}
+use mathlib.Core.Option.{Option, none, some}
 use mathlib.Core.Bool.{true}
 use mathlib.Core.List.{List, [], _∷_, _++_, map}
 use lib.Dec.{ltb}
 use lib.ListN.{length, getD, replicate}
-use Rattle.laws.specs.Lists.{one, keep}
+use Rattle.laws.specs.Lists.{All, one, keep}
 use Rattle.chart.specs.declared.Answer.the-variants.{Ready}
 use Rattle.chart.specs.Chart.{Part, Board, ready as accepted, chart}
-use Rattle.chart.specs.Read.{numbersOf}
+use Rattle.chart.specs.Read.{numbers, numbersOf}
 use Rattle.graph.specs.Graph.{Line, given, number, Node, givenGraph, nodeAt}
 use Rattle.graph.specs.Completion.{complete}
 use Rattle.graph.specs.Cutting.{cutting}
@@ -78,13 +78,14 @@ pub record AllWalks (board : Board) : Type 0 where
   pub cutting : Walks board
   pub heights : (p more : ℕ) →
       walkFrom (length (shapeCut board) + more) (shapeCut board) (length (shapeCut board)) (replicate (length (shapeCut board)) none) p ≡ reachedFrom (shapeCut board) p
+  -- a walk of module 6 gives no node the row 0, so that none above it is cut off there
+  pub rows : (p : ℕ) → p < length (shapeCut board) → All (λ (o : Option ℕ). o ≡ some 0 → ⊥) (reachedFrom (shapeCut board) p)
 
 -- what `sheet` promises, for every byte string s and every origin x y
 pub record IsSheet (s : List ℕ) (x y : ℕ) (r : Outcome) : Type 0 where
-  -- every field of the answer is the definition's
+  -- every field of the answer is the definition's; a refusal is document 01's two numbers
   pub whole : r ≡ outcomeOf x y (sheeted s x y)
-  -- a refusal is document 01's two numbers
-  pub refused : (a b : ℕ) → sheeted s x y ≡ refusal a b → numbersOf (r .answer) ≡ record { first = a; second = b }
+  pub refused : (number second : ℕ) → sheeted s x y ≡ refusal number second → numbersOf (r .answer) ≡ numbers number second
   -- the sheet that is drawn
   pub laid : r .answer ≡ Ready → LaidOut s x y (r .sheet)
   -- at origin 0 0 no chart that 1 to 13 leave is refused

@@ -1,8 +1,7 @@
--- Document 01, modules 6, 7 and 8, on lists; what the code's arrays and records stand for; what is claimed.
+-- Document 01, modules 6, 7 and 8, on lists; the records that are handed out; what is claimed of them.
 pub mod Lists
 pub mod Heights
 pub mod Columns
-pub mod Placed
 pub mod RenderNode
 pub mod RenderGrid
 pub mod Record
@@ -13,9 +12,5 @@ pub mod Labels
 pub mod Labelled
 pub mod BoxTheorem
 pub mod LaidOut
-pub mod Arrays
-pub mod Leads
-pub mod Walk
-pub mod Rendered
-pub mod Laid
 pub mod Cases
+pub mod code

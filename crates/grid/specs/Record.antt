@@ -20,7 +20,20 @@ noCurve = record { x0 = 0; y0 = 0; x1 = 0; y1 = 0 }
 
 -- a refused sheet: every field is 0
 abbrev pub noSheet : SheetRecord
-noSheet = record { width = 0; height = 0; x = 0; y = 0; columns = 0; rows = 0; cuts = 0; count = 0; drawn = 0; boxes = replicate 48 noBox; curves = replicate 88 noCurve }
+noSheet =
+    record {
+      width = 0;
+      height = 0;
+      x = 0;
+      y = 0;
+      columns = 0;
+      rows = 0;
+      cuts = 0;
+      count = 0;
+      drawn = 0;
+      boxes = replicate 48 noBox;
+      curves = replicate 88 noCurve;
+    }
 
 -- the boxes and the curves that the record has
 abbrev pub boxesOf : SheetRecord → List BoxRecord

@@ -4,16 +4,10 @@ use Prim.Native.Nat.{ℕ, _+_}
 use mathlib.Core.Bool.{Bool, cond, _&&_}
 use mathlib.Core.List.{List}
 use lib.Dec.{leb}
-use lib.ListN.{take}
-use Rattle.chart.specs.declared.Answer.{Answer}
 use Rattle.chart.specs.declared.Answer.the-variants.{Ready, Refused}
-use Rattle.graph.specs.declared.Tables.{Tables}
-use Rattle.graph.specs.declared.Outcome.{Outcome as Graphing}
 use Rattle.graph.specs.Shape.{shapeOf}
-use Rattle.graph.specs.Tables.{graphOf}
 use Rattle.graph.specs.Graphed.{Dag, Graphed, ready as cut, refusal as refused, graphed}
 use Rattle.order.specs.Chains.{columns as firstColumns}
-use Rattle.grid.specs.declared.SheetRecord.{SheetRecord}
 use Rattle.grid.specs.declared.Outcome.{Outcome}
 use Rattle.grid.specs.RenderGrid.{Sheet, sheet}
 use Rattle.grid.specs.Record.{noSheet}
@@ -48,15 +42,3 @@ sheeted s x y = drawn x y (graphed s)
 abbrev pub outcomeOf : ℕ → ℕ → Sheeted → Outcome
 outcomeOf x y (ready s) = record { answer = Ready; sheet = recordOf s x y }
 outcomeOf x y (refusal number second) = record { answer = Refused number second; sheet = noSheet }
-
--- 14, of a sheet's record
-abbrev pub fittedOf : SheetRecord → Outcome
-fittedOf s = cond (within (s .x) (s .width) && within (s .y) (s .height)) (record { answer = Ready; sheet = s }) (record { answer = Refused 14 0; sheet = noSheet })
-
--- the sheet of an answer's graph with these first columns, or its refusal
-abbrev pub arrangedBy : Answer → Tables → List ℕ → ℕ → ℕ → Outcome
-arrangedBy Ready g first x y = fittedOf (recordOf (sheet (graphOf g) (g .cuts) (take (g .n) first)) x y)
-arrangedBy (Refused number second) g first x y = record { answer = Refused number second; sheet = noSheet }
-
-abbrev pub arrangedOf : Graphing → List ℕ → ℕ → ℕ → Outcome
-arrangedOf w first x y = arrangedBy (w .answer) (w .graph) first x y

@@ -8,9 +8,9 @@ ghost use lib.Dec.{eqb};
 ghost use lib.ListN.{length, take, drop};
 ghost use Rattle.grid.specs.Lists.{largest, smallest, orElse, total};
 ghost use Rattle.grid.specs.Columns.{at, taken, extra, foldFrom, leftEnd, rightOf, clamp, averageTo, target, firstMove, mean, columnsOf, incidents, firstMoves, average, round, columns};
-ghost use Rattle.grid.specs.Placed.{FirstColumns};
-ghost use Rattle.grid.specs.Leads.{part, shapeIn, Led};
-ghost use Rattle.grid.specs.Arrays.{Boxes, Inside, inColumn, tableTo};
+ghost use Rattle.grid.specs.code.Placed.{FirstColumns};
+ghost use Rattle.grid.specs.code.Leads.{part, shapeIn, Led};
+ghost use Rattle.grid.specs.code.Arrays.{Boxes, Inside, inColumn, tableTo};
 
 // The largest of the first n.
 fn largest_of(xs: &[u8; 48], n: u32) -> u8

@@ -5,9 +5,9 @@ ghost use lib.ListN.{drop, replicate};
 ghost use mathlib.Core.List.{_++_, map};
 ghost use Rattle.grid.specs.Lists.{orElse};
 ghost use Rattle.grid.specs.Heights.{reachedFrom, lowered, fresh, start, heights};
-ghost use Rattle.grid.specs.Leads.{shapeIn, Led};
+ghost use Rattle.grid.specs.code.Leads.{shapeIn, Led};
 ghost use lib.IntN.{natAbs};
-ghost use Rattle.grid.specs.Walk.{signedBy, rowIn, rowsOf, reachedIn, raised, lesserOf, lowerBy, Above, AllNear, IsLeast};
+ghost use Rattle.grid.specs.code.Walk.{signedBy, rowIn, rowsOf, reachedIn, raised, lesserOf, lowerBy, renumberedOf, Above, AllNear, IsLeast};
 
 // A node on the path, its row, and the place where it looks next among those that it leads to: sources first, then sinks.
 pub struct Frame {
@@ -117,16 +117,26 @@ fn least_row(seen: [bool; 48], rows: [i8; 48], n: usize) -> i8
     m
 }
 
-// The row lowered by m, and one; without a row, y stays.
-fn lower_one(seen: bool, row: i8, m: i8, y: u8) -> u8
+// The row lowered by m, and one; 0 without a row.
+fn lower_one(seen: bool, row: i8, m: i8) -> u8
     requires { ⌜ Above seen row m ⌝ }
-    ensures { λ r. ⌜ r ≡ lowerBy seen row m y ⌝ }
+    ensures { λ r. ⌜ r ≡ lowerBy seen row m 0 ⌝ }
 {
     if seen {
         let d = row - m;
         return d as u8 + 1;
     }
-    y
+    0
+}
+
+// A new row takes the place of the old one.
+fn renumbered(new: u8, old: u8) -> u8
+    ensures { λ r. ⌜ r ≡ renumberedOf new old ⌝ }
+{
+    if new == 0 {
+        return old;
+    }
+    new
 }
 
 // All that have a row in seen are lowered by m; the others keep theirs.
@@ -138,8 +148,8 @@ fn lower_all(seen: [bool; 48], walked: [i8; 48], rows: [u8; 48], n: usize, m: i8
     let mut k = n;
     while 0 < k {
         k -= 1;
-        let z = lower_one(seen[k], walked[k], m, rows[k]);
-        moved[k] = z;
+        let z = lower_one(seen[k], walked[k], m);
+        moved[k] = renumbered(z, rows[k]);
     }
     moved
 }

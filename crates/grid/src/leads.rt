@@ -4,7 +4,7 @@ ghost use Prim.Native.Nat.{_+_, _≤_};
 ghost use lib.ListN.{length};
 ghost use lib.Seq.{sets};
 ghost use Rattle.graph.specs.Ends.{endsOf, shapeFrom, Linked};
-ghost use Rattle.grid.specs.Leads.{shapeIn, Led};
+ghost use Rattle.grid.specs.code.Leads.{shapeIn, Led};
 use graph::Ends;
 
 // The sources of node p stand from bounds[2 p] up to bounds[2 p + 1], its sinks from there up to bounds[2 p + 2].

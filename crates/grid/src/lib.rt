@@ -2,14 +2,15 @@
 ghost use mathlib.Core.Path.{_≡_};
 ghost use mathlib.Core.Bool.{_&&_};
 ghost use lib.ListN.{take};
-ghost use Rattle.graph.specs.Tables.{graphOf};
+ghost use Rattle.graph.specs.code.Tables.{graphOf};
 ghost use Rattle.graph.specs.Ends.{endsIn};
 ghost use Rattle.order.specs.Ordered.{columnsIn};
-ghost use Rattle.grid.specs.Placed.{FirstColumns};
-ghost use Rattle.grid.specs.Rendered.{Seated};
+ghost use Rattle.grid.specs.code.Placed.{FirstColumns};
+ghost use Rattle.grid.specs.code.Rendered.{Seated};
 ghost use Rattle.grid.specs.RenderGrid.{sheet};
 ghost use Rattle.grid.specs.Curves.{recordOf};
-ghost use Rattle.grid.specs.Sheeted.{within as withinOf, refusal, outcomeOf, arrangedOf};
+ghost use Rattle.grid.specs.Sheeted.{within as withinOf, refusal, outcomeOf};
+ghost use Rattle.grid.specs.code.Laid.{arrangedOf};
 ghost use Rattle.grid.specs.LaidOut.{IsSheet};
 ghost use Rattle.grid.specs.Labelled.{refusal as noPlace, labelled, labelOutcomeOf};
 use chart::Answer;
@@ -142,12 +143,12 @@ fn fits(x: u32, y: u32, width: u32, height: u32) -> bool
 
 // The first columns of an answer's graph.
 fn first_in(r: graph::Outcome) -> [u8; 48]
-    ensures { λ cs. ⌜ cs ≡ columnsIn (r .graph .n) (endsIn (r .graph .sources)) (endsIn (r .graph .sinks)) ⌝ }
+    ensures { λ cs. ⌜ cs ≡ columnsIn (r .graph .n) (endsIn (r .graph .sources)) (endsIn (r .graph .sinks)) .columns ⌝ }
 {
     let g = r.graph;
     let sources = g.sources;
     let sinks = g.sinks;
-    order::order_of(graph::ends_of(sources), graph::ends_of(sinks), g.n)
+    order::order_of(graph::ends_of(sources), graph::ends_of(sinks), g.n).columns
 }
 
 // The sheet of an answer's graph with these first columns, at an origin; or its refusal, or 14.

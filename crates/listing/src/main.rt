@@ -1,4 +1,11 @@
 // The listing of document 01: a chart on standard input, its first 8,192 bytes, at origin 0 0; the sheet, its boxes and its path, or the refusal, on standard output.
+ghost use mathlib.Core.Path.{_≡_};
+ghost use mathlib.Core.Bool.{true};
+ghost use Prim.Native.Nat.{_≤_};
+ghost use lib.ListN.{length};
+ghost use Rattle.io.specs.Counts.{Counts};
+ghost use Rattle.grid.specs.Record.{soundOf};
+ghost use Rattle.path.specs.Promises.{IsWritten};
 use chart::Answer;
 use grid::BoxRecord;
 use grid::SheetRecord;
@@ -22,31 +29,47 @@ fn print_box(k: u64, b: BoxRecord) {
     io::write_all(STDOUT_FILENO, b"\n");
 }
 
-fn print_boxes(boxes: [BoxRecord; 48], count: u8) {
-    for k in 0..48usize {
-        if k < count as usize {
-            print_box(k as u64, boxes[k]);
-        }
+fn print_boxes(s: SheetRecord)
+    requires { ⌜ soundOf s ≡ true ⌝ }
+{
+    let boxes = s.boxes;
+    for k in 0..s.count as usize {
+        print_box(k as u64, boxes[k]);
     }
+}
+
+// Puts the text of a sound sheet at the buffer's start and answers its length. None is refused: such a text has at most 9,887 bytes.
+fn write_text(s: SheetRecord, buf: &mut [u8]) -> usize
+    requires { ⌜ soundOf s ≡ true ⌝ }
+    requires { ⌜ 9887 ≤ length (now buf) ⌝ }
+    ensures { λ n. ⌜ IsWritten s (now (buf .entry)) (Written.Done n) (now (buf .exit)) ⌝ }
+    ensures { λ n. ⌜ Counts n (now (buf .exit)) ⌝ }
+{
+    let written = path::write_sheet(s, buf);
+    let Written::Done(n) = written else {
+        // Never reached.
+        return 0;
+    };
+    n
 }
 
 // The path's text, or `path` alone if it is empty.
-fn print_path(s: SheetRecord) {
+fn print_path(s: SheetRecord)
+    requires { ⌜ soundOf s ≡ true ⌝ }
+{
     io::write_all(STDOUT_FILENO, b"path");
     let mut text = io::large_buffer();
-    let written = path::write_sheet(s, &mut text);
-    if let Written::Done(n) = written {
-        if 0 < n {
-            io::write_all(STDOUT_FILENO, b" ");
-        }
-        if n <= 65536 {
-            io::write_all(STDOUT_FILENO, &text[..n]);
-        }
+    let n = write_text(s, &mut text);
+    if 0 < n {
+        io::write_all(STDOUT_FILENO, b" ");
     }
+    io::write_all(STDOUT_FILENO, &text[..n]);
     io::write_all(STDOUT_FILENO, b"\n");
 }
 
-fn print_sheet(s: SheetRecord) {
+fn print_sheet(s: SheetRecord)
+    requires { ⌜ soundOf s ≡ true ⌝ }
+{
     io::write_all(STDOUT_FILENO, b"sheet");
     number(s.columns as u64);
     number(s.rows as u64);
@@ -55,8 +78,7 @@ fn print_sheet(s: SheetRecord) {
     number(s.count as u64);
     number(s.cuts as u64);
     io::write_all(STDOUT_FILENO, b"\n");
-    let boxes = s.boxes;
-    print_boxes(boxes, s.count);
+    print_boxes(s);
     print_path(s);
 }
 

@@ -15,18 +15,19 @@ use Rattle.grid.specs.Sheeted.{sheeted, outcomeOf}
 use Rattle.grid.specs.LaidOut.{IsSheet}
 use Rattle.grid.specs.declared.SheetRecord.{SheetRecord}
 use Rattle.grid.specs.Labelled.{Labelled}
+use Rattle.path.specs.declared.Given.{Given}
 use Rattle.path.specs.declared.Written.{Written}
 use Rattle.path.specs.declared.Written.the-variants.{Done, Refused}
 use Rattle.path.specs.declared.LabelSpan.{LabelSpan}
 use Rattle.path.specs.Reader.{Answer as Path, read}
 use Rattle.path.specs.Answers.{sheetAnswer, writtenOf}
-use Rattle.path.specs.Promises.{SheetText, IsWritten, IsRewritten}
-use Rattle.path.specs.Label.{Place, chart, table, Within, spanPlace, IsLabelSpan}
+use Rattle.path.specs.Promises.{SheetText, IsSegment, IsWritten, IsRewritten}
+use Rattle.path.specs.Label.{Place, chart, table, Within, labelAnswerOf, labelPartOf, spanIn, labelSpanOf, IsLabelSpan}
 use Rattle.path.proofs.TextSizes.{own-text-most}
-use Rattle.path.proofs.Promises.{read-judged}
 use Rattle.margalhosa.specs.declared.CountResult.{CountResult}
+use Rattle.margalhosa.specs.declared.SegmentResult.{SegmentResult}
 use Rattle.margalhosa.specs.declared.PartResult.{PartResult}
-use Rattle.margalhosa.specs.Results.{sheetResult, IsSheetResult, writtenResult, IsTextResult, IsRewriteResult, partResult, IsPartResult}
+use Rattle.margalhosa.specs.Results.{sheetResult, IsSheetResult, segmentResult, IsSegmentResult, writtenResult, IsTextResult, IsRewriteResult, partResult, IsPartResult}
 use Rattle.margalhosa.proofs.Zeros.{sheet-zero, sheet-path, text-path, Path-some, IsDone, written-zero}
 
 module _ (s : List ℕ) (x y : ℕ) (o : Outcome) (i : IsSheet s x y o) (n m : ℕ) (a : n ≡ numbersOf (o .answer) .first) (b : m ≡ numbersOf (o .answer) .second) where
@@ -42,8 +43,7 @@ module _ (s : List ℕ) (x y : ℕ) (o : Outcome) (i : IsSheet s x y o) (n m : �
         drawn = λ z. sym (i .whole) ∙ rw (← ready-at z);
         laid = λ z. i .laid (ready-at z);
         text-most = λ z. own-text-most s x y o i (ready-at z);
-        at-origin = λ d g p q. a ∙ ap (λ (u : Answer). numbersOf u .first) (i .at-origin d g p q);
-        walks = i .walks;
+        promised = subst (IsSheet s x y) (i .whole) i;
       }
 
 -- a flag as a number
@@ -74,29 +74,33 @@ text-is s buf w out i r e =
 pub rewrite-is : (s buf : List ℕ) (w : Written) (out : List ℕ) → IsRewritten s buf w out → (r : CountResult) → r ≡ writtenResult w → IsRewriteResult s buf r out
 rewrite-is s buf w out i r e =
     record {
-      written = w;
-      promised = i;
-      whole = e;
-      same = λ z. i .same (r .count) (is-done buf (i .answer) (subst Path-some (i .reading .only (read s) (read-judged s)) (text-path s)) w (i .whole) r e z);
+      whole = e ∙ ap writtenResult (i .whole);
+      bytes = i .bytes;
+      same = λ z. i .same (r .count) (is-done buf (read s) (text-path s) w (i .whole) r e z);
     }
 
--- ---- a label's part
-module _ (m n : ℕ) (q : LabelSpan) (w : Within m n (spanPlace q)) where
-  span-in-chart : (b : Bool) → q .fixed ≡ b → _≡_ {A = ℕ} (cond b 1 0) 0 → q .at + q .len ≤ m
-  span-in-chart true e z = absurd (omega arith)
-  span-in-chart false e z = (rw e at w) .1
+-- ---- a segment
+pub segment-is : (k : ℕ) (a : Path) (g : Given) → IsSegment k a g → (r : SegmentResult) → r ≡ segmentResult g → IsSegmentResult k a r
+segment-is k a g i r e = record { whole = e ∙ ap segmentResult (i .whole); promised = subst (IsSegment k a) (i .whole) i }
 
-  span-in-table : (b : Bool) → q .fixed ≡ b → _≡_ {A = ℕ} (cond b 1 0) 1 → q .at + q .len ≤ n
-  span-in-table true e z = (rw e at w) .1
-  span-in-table false e z = absurd (omega arith)
+-- ---- a label's part
+module _ (m n : ℕ) where
+  span-in-chart : (a : Answer) (p : Place) → Within m n p → _≡_ {A = ℕ} (cond (spanIn a p .fixed) 1 0) 0 → spanIn a p .at + spanIn a p .len ≤ m
+  span-in-chart a (chart b e) w z = omega (arith, w .0, w .1)
+  span-in-chart a (table b e) w z = absurd (omega arith)
+
+  span-in-table : (a : Answer) (p : Place) → Within m n p → _≡_ {A = ℕ} (cond (spanIn a p .fixed) 1 0) 1 → spanIn a p .at + spanIn a p .len ≤ n
+  span-in-table a (chart b e) w z = absurd (omega arith)
+  span-in-table a (table b e) w z = omega (arith, w .0, w .1)
 
 pub part-is : (s t : List ℕ) (l : Labelled) (q : LabelSpan) → IsLabelSpan s t l q → (r : PartResult) → r ≡ partResult q → IsPartResult s t l r
 part-is s t l q i r e =
-    subst (IsPartResult s t l) (sym e)
+    let a = labelAnswerOf t l .answer in
+    let p = labelPartOf t l in
+    let whole : r ≡ partResult (labelSpanOf t l) = e ∙ ap partResult (i .whole) in
+    subst (IsPartResult s t l) (sym whole)
     (record {
-      span = q;
-      promised = i;
       whole = refl;
-      in-chart = λ z. span-in-chart (length s) (length t) q (i .within) (q .fixed) refl z;
-      in-table = λ z. span-in-table (length s) (length t) q (i .within) (q .fixed) refl z;
+      in-chart = λ z. span-in-chart (length s) (length t) a p (i .within) z;
+      in-table = λ z. span-in-table (length s) (length t) a p (i .within) z;
     })

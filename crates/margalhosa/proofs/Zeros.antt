@@ -2,7 +2,7 @@
 -- Assumes nothing.
 use Prim.Native.Nat.{ℕ, _+_, _*_, _<_}
 use native.Mathlib.Omega.{arith}
-use mathlib.Core.Path.{_≡_, refl}
+use mathlib.Core.Path.{_≡_, refl, sym, ap, _∙_}
 use mathlib.Core.Bool.{Bool, true, false, cond, _&&_}
 use mathlib.Core.Option.{Option, none, some}
 use mathlib.Core.List.{List}
@@ -10,6 +10,7 @@ use lib.Dec.{eqb, leb, ltb}
 use lib.ListN.{length, getD}
 use Rattle.laws.specs.Bytes.{same}
 use Rattle.laws.proofs.Tests.{pick}
+use Rattle.chart.specs.declared.Answer.{Answer}
 use Rattle.chart.specs.declared.Answer.the-variants.{Ready}
 use Rattle.chart.specs.Chart.{Board, Reading, ready as accepted, refusal as unread, Refusal, misplaced, cutBody, manyLines, longText, notText, numberOf, Got, got, refused, endsOf, targetsOf, firstOutside, judgeTargets, judged, bodies, chart}
 use Rattle.chart.specs.Read.{numbersOf}
@@ -37,7 +38,7 @@ use Rattle.path.specs.Drawn.{segmentOf}
 use Rattle.path.specs.Text.{textOf}
 use Rattle.path.specs.Segments.{drawnOf}
 use Rattle.path.specs.Answers.{sheetAnswer, countOf, givenOf, writtenOf}
-use Rattle.path.specs.Label.{standIns, tabled, labelAnswerOf, labelSpanOf, answerIn, spanIn}
+use Rattle.path.specs.Label.{Place, chart as inChart, table as inTable, standIns, tabled, labelAnswerOf, labelPartOf, labelSpanOf, answerIn, spanIn}
 use Rattle.margalhosa.specs.Results.{boxResult, segmentResult, writtenResult, countResult, labelResult, partResult}
 
 -- ---- 1 to 12
@@ -143,12 +144,15 @@ answer-zero (unlabelled n m) h e = absurd (omega (arith, h, e))
 pub label-zero : (t s : List ℕ) (x y k i : ℕ) → labelResult (labelAnswerOf t (labelled s x y k i)) .refused ≡ 0 → labelAnswerOf t (labelled s x y k i) .answer ≡ Ready
 label-zero t s x y k i = answer-zero (tabled t (labelled s x y k i)) (label-some t s x y k i)
 
-span-zero : (v : Labelled) → Label-some v → partResult (spanIn v) .refused ≡ 0 → spanIn v .answer ≡ Ready
-span-zero (labels p) h e = refl
-span-zero (unlabelled n m) h e = absurd (omega (arith, h, e))
+span-answer : (a : Answer) (p : Place) → spanIn a p .answer ≡ a
+span-answer a (inChart b e) = refl
+span-answer a (inTable b e) = refl
 
 pub part-zero : (t s : List ℕ) (x y k i : ℕ) → partResult (labelSpanOf t (labelled s x y k i)) .refused ≡ 0 → labelSpanOf t (labelled s x y k i) .answer ≡ Ready
-part-zero t s x y k i = span-zero (tabled t (labelled s x y k i)) (label-some t s x y k i)
+part-zero t s x y k i e =
+    let l = labelled s x y k i in
+    let same = span-answer (labelAnswerOf t l .answer) (labelPartOf t l) in
+    same ∙ label-zero t s x y k i (sym (ap (λ (a : Answer). numbersOf a .first) same) ∙ e)
 
 -- ---- segments, of a sheet (14) or of a path text (17 to 19); then 15, 16
 abbrev pub Path-some : Path → Type 0

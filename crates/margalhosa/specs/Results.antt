@@ -7,13 +7,11 @@ use mathlib.Core.List.{List, _++_}
 use lib.ListN.{length, take, drop}
 use lib.Ieee.{binary32, ofBits}
 use Rattle.chart.specs.declared.Answer.the-variants.{Ready}
-use Rattle.chart.specs.Chart.{Board, ready as accepted, chart}
 use Rattle.chart.specs.Read.{Numbers, numbersOf}
-use Rattle.graph.specs.Graphed.{Dag, ready as cut, graphed}
 use Rattle.grid.specs.declared.Outcome.{Outcome}
 use Rattle.grid.specs.declared.BoxAnswer.{BoxAnswer}
 use Rattle.grid.specs.Sheeted.{sheeted, outcomeOf}
-use Rattle.grid.specs.LaidOut.{LaidOut, AllWalks}
+use Rattle.grid.specs.LaidOut.{LaidOut, IsSheet}
 use Rattle.grid.specs.Labelled.{Labelled}
 use Rattle.grid.specs.declared.SheetRecord.{SheetRecord}
 use Rattle.path.specs.declared.Pen.{Pen}
@@ -29,9 +27,10 @@ use Rattle.path.specs.declared.LabelAnswer.{LabelAnswer}
 use Rattle.path.specs.declared.LabelSpan.{LabelSpan}
 use Rattle.path.specs.Text.{textOf}
 use Rattle.path.specs.Segments.{drawnOf}
-use Rattle.path.specs.Answers.{sheetAnswer, writtenOf, leftOf, givenNumbers, countNumbers, writtenNumbers}
-use Rattle.path.specs.Promises.{SheetText, IsCount, IsRewritten}
-use Rattle.path.specs.Label.{IsLabelSpan}
+use Rattle.path.specs.Answers.{sheetAnswer, givenOf, writtenOf, leftOf, givenNumbers, countNumbers, writtenNumbers}
+use Rattle.path.specs.Reader.{Answer, read}
+use Rattle.path.specs.Promises.{SheetText, IsSegment}
+use Rattle.path.specs.Label.{labelSpanOf}
 use Rattle.margalhosa.specs.declared.SheetResult.{SheetResult}
 use Rattle.margalhosa.specs.declared.BoxResult.{BoxResult}
 use Rattle.margalhosa.specs.declared.SegmentResult.{SegmentResult}
@@ -45,16 +44,14 @@ sheetResult o = record { refused = numbersOf (o .answer) .first; second = number
 
 -- what `margalhosa_sheet` promises, for every byte string s and every origin x y
 pub record IsSheetResult (s : List ℕ) (x y : ℕ) (r : SheetResult) : Type 0 where
-  -- every field of the answer is the definition's
+  -- every field of the answer is the definition's, of which `grid` promises more: drawn at origin 0 0, the walks
   pub whole : r ≡ sheetResult (outcomeOf x y (sheeted s x y))
+  pub promised : IsSheet s x y (outcomeOf x y (sheeted s x y))
   -- 0 is no refusal's number: the sheet is drawn (of the other results: proofs/Zeros.antt)
   pub drawn : r .refused ≡ 0 → outcomeOf x y (sheeted s x y) ≡ record { answer = Ready; sheet = r .sheet }
   -- what is claimed of a sheet that is drawn; its text has at most 9,467 bytes
   pub laid : r .refused ≡ 0 → LaidOut s x y (r .sheet)
   pub text-most : r .refused ≡ 0 → length (textOf (drawnOf (r .sheet))) ≤ 9467
-  -- at origin 0 0 no chart that 1 to 13 leave is refused; and the walks, also of a board that 13 refuses
-  pub at-origin : (d : Dag) → graphed s ≡ cut d → x ≡ 0 → y ≡ 0 → r .refused ≡ 0
-  pub walks : (board : Board) → chart s ≡ accepted board → AllWalks board
 
 abbrev pub boxResult : BoxAnswer → BoxResult
 boxResult b = record { refused = numbersOf (b .answer) .first; second = numbersOf (b .answer) .second; place = b .place }
@@ -78,11 +75,10 @@ abbrev pub segmentResult : Given → SegmentResult
 segmentResult (Drawn g) = segmentIn (givenNumbers (Drawn g)) g
 segmentResult (Given·Refused n p) = segmentBy (givenNumbers (Given·Refused n p)) 0 noPen noPen noPen
 
--- what `margalhosa_segment` and `margalhosa_text_segment` promise: the segment is the one that `path` promises (`IsSegment`, `IsGiven`)
-pub record IsSegmentResult (Promised : Given → Type 0) (r : SegmentResult) : Type 0 where
-  pub given : Given
-  pub promised : Promised given
-  pub whole : r ≡ segmentResult given
+-- what `margalhosa_segment` and `margalhosa_text_segment` promise of segment k of what a sheet or a path text gives: it is the one that `path` hands out
+pub record IsSegmentResult (k : ℕ) (a : Answer) (r : SegmentResult) : Type 0 where
+  pub whole : r ≡ segmentResult (givenOf k a)
+  pub promised : IsSegment k a (givenOf k a)
 
 -- ---- counts: of the bytes written, of the segments of a text
 abbrev pub countBy : Numbers → ℕ → CountResult
@@ -102,30 +98,36 @@ pub record IsTextResult (s : SheetRecord) (buf : List ℕ) (r : CountResult) (ou
   pub bytes : out ≡ leftOf buf (sheetAnswer s)
   pub text : r .refused ≡ 0 → SheetText s (take (r .count) out)
 
--- `margalhosa_text_count`
-pub record IsCountResult (s : List ℕ) (r : CountResult) : Type 0 where
-  pub counted : Counted
-  pub promised : IsCount s counted
-  pub whole : r ≡ countResult counted
-
--- `margalhosa_rewrite`
+-- `margalhosa_rewrite`: the text s, byte for byte
 pub record IsRewriteResult (s buf : List ℕ) (r : CountResult) (out : List ℕ) : Type 0 where
-  pub written : Written
-  pub promised : IsRewritten s buf written out
-  pub whole : r ≡ writtenResult written
+  pub whole : r ≡ writtenResult (writtenOf buf (read s))
+  pub bytes : out ≡ leftOf buf (read s)
   pub same : r .refused ≡ 0 → (r .count ≡ length s) × (out ≡ s ++ drop (r .count) buf)
 
 -- ---- labels
 abbrev pub labelResult : LabelAnswer → LabelResult
-labelResult l = record { refused = numbersOf (l .answer) .first; second = numbersOf (l .answer) .second; x = l .x; y = l .y; size = l .size; width = l .width }
+labelResult l =
+    record {
+      refused = numbersOf (l .answer) .first;
+      second = numbersOf (l .answer) .second;
+      x = l .x;
+      y = l .y;
+      size = l .size;
+      width = l .width;
+    }
 
 abbrev pub partResult : LabelSpan → PartResult
-partResult l = record { refused = numbersOf (l .answer) .first; second = numbersOf (l .answer) .second; fixed = cond (l .fixed) 1 0; at = l .at; len = l .len }
+partResult l =
+    record {
+      refused = numbersOf (l .answer) .first;
+      second = numbersOf (l .answer) .second;
+      fixed = cond (l .fixed) 1 0;
+      at = l .at;
+      len = l .len;
+    }
 
 -- what `margalhosa_label_part` promises: the part lies within the chart s or the table t
 pub record IsPartResult (s t : List ℕ) (l : Labelled) (r : PartResult) : Type 0 where
-  pub span : LabelSpan
-  pub promised : IsLabelSpan s t l span
-  pub whole : r ≡ partResult span
+  pub whole : r ≡ partResult (labelSpanOf t l)
   pub in-chart : r .fixed ≡ 0 → r .at + r .len ≤ length s
   pub in-table : r .fixed ≡ 1 → r .at + r .len ≤ length t

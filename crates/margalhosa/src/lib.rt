@@ -4,9 +4,11 @@ ghost use mathlib.Core.Path.{_≡_};
 ghost use Rattle.chart.specs.Read.{numbersOf};
 ghost use Rattle.grid.specs.Record.{boxAnswerOf};
 ghost use Rattle.grid.specs.Labelled.{labelled};
-ghost use Rattle.path.specs.Promises.{IsSegment, IsGiven};
+ghost use Rattle.path.specs.Reader.{read};
+ghost use Rattle.path.specs.Answers.{sheetAnswer, countOf};
+ghost use Rattle.path.specs.Promises.{IsReading};
 ghost use Rattle.path.specs.Label.{labelAnswerOf};
-ghost use Rattle.margalhosa.specs.Results.{IsSheetResult, noPen, boxResult, segmentResult, IsSegmentResult, writtenResult, IsTextResult, countResult, IsCountResult, IsRewriteResult, labelResult, IsPartResult};
+ghost use Rattle.margalhosa.specs.Results.{IsSheetResult, noPen, boxResult, segmentResult, IsSegmentResult, writtenResult, IsTextResult, countResult, IsRewriteResult, labelResult, IsPartResult};
 use chart::Answer;
 use grid::BoxRecord;
 use grid::SheetRecord;
@@ -229,7 +231,7 @@ pub extern "C" fn margalhosa_box(sheet: SheetRecord, k: u32) -> BoxResult
 // Segment k of a sheet: 14, 15.
 #[no_mangle]
 pub extern "C" fn margalhosa_segment(sheet: SheetRecord, k: u32) -> SegmentResult
-    ensures { λ r. ⌜ IsSegmentResult (IsSegment sheet k) r ⌝ }
+    ensures { λ r. ⌜ IsSegmentResult k (sheetAnswer sheet) r ⌝ }
 {
     given(path::sheet_segment(sheet, k as usize))
 }
@@ -292,7 +294,8 @@ pub extern "C" fn margalhosa_label_part(
 // How many segments a path text has: 17 to 19.
 #[no_mangle]
 pub extern "C" fn margalhosa_text_count(text: &[u8]) -> CountResult
-    ensures { λ r. ⌜ IsCountResult (now (text .entry)) r ⌝ }
+    ensures count { λ r. ⌜ r ≡ countResult (countOf (read (now (text .entry)))) ⌝ }
+    ensures reading { λ _. ⌜ IsReading (now (text .entry)) ⌝ }
 {
     counted(path::text_count(text))
 }
@@ -300,7 +303,8 @@ pub extern "C" fn margalhosa_text_count(text: &[u8]) -> CountResult
 // Segment k of a path text: 17 to 19, then 15.
 #[no_mangle]
 pub extern "C" fn margalhosa_text_segment(text: &[u8], k: u32) -> SegmentResult
-    ensures { λ r. ⌜ IsSegmentResult (IsGiven (now (text .entry)) k) r ⌝ }
+    ensures segment { λ r. ⌜ IsSegmentResult k (read (now (text .entry))) r ⌝ }
+    ensures reading { λ _. ⌜ IsReading (now (text .entry)) ⌝ }
 {
     given(path::text_segment(text, k as usize))
 }
@@ -308,7 +312,8 @@ pub extern "C" fn margalhosa_text_segment(text: &[u8], k: u32) -> SegmentResult
 // A path text read and written again, at the buffer's start: 17 to 19, then 16. Refused, nothing is written.
 #[no_mangle]
 pub extern "C" fn margalhosa_rewrite(text: &[u8], buf: &mut [u8]) -> CountResult
-    ensures { λ r. ⌜ IsRewriteResult (now (text .entry)) (now (buf .entry)) r (now (buf .exit)) ⌝ }
+    ensures written { λ r. ⌜ IsRewriteResult (now (text .entry)) (now (buf .entry)) r (now (buf .exit)) ⌝ }
+    ensures reading { λ _. ⌜ IsReading (now (text .entry)) ⌝ }
 {
     written(path::rewrite(text, buf))
 }

@@ -3,25 +3,28 @@
 use Prim.Native.Nat.{ℕ, _-_, _≤_}
 use native.Mathlib.Omega.{arith}
 use mathlib.Core.Path.{_≡_, ap, sym, subst, _∙_}
+use mathlib.Core.Bool.{true}
 use mathlib.Core.List.{List, _++_}
 use lib.ListN.{length, take, replicate}
 use lib.Seq.{take-at}
 use Rattle.laws.specs.Lists.{padded}
 use Rattle.laws.proofs.Lists.{padded-is, length-tabulate}
 use Rattle.chart.specs.declared.Answer.the-variants.{Ready, Refused}
+use Rattle.chart.specs.Read.{numbers, numbersOf}
 use Rattle.graph.specs.declared.Tables.{Tables}
 use Rattle.graph.specs.declared.Ends.{Ends}
 use Rattle.graph.specs.declared.Outcome.{Outcome as GraphOutcome}
 use Rattle.graph.specs.Graphed.{ready as cut, refusal as refused, graphed}
-use Rattle.graph.specs.Outcome.{Graphs}
+use Rattle.graph.specs.code.Graphs.{Graphs}
 use Rattle.graph.specs.Shape.{Shape, shapeOf}
 use Rattle.graph.specs.Ends.{endsIn, shapeFrom, Linked as EndsLinked}
-use Rattle.graph.specs.Tables.{Linked, graphOf}
+use Rattle.graph.specs.code.Tables.{Linked, graphOf}
 use Rattle.graph.proofs.EndsLaws.{shape-held, linked-held, sources-long, sinks-long}
 use Rattle.order.specs.declared.Outcome.{Outcome}
+use Rattle.order.specs.declared.ColumnsAnswer.{ColumnsAnswer}
 use Rattle.order.specs.Chains.{columns}
 use Rattle.order.specs.Claims.{EachOnce}
-use Rattle.order.specs.Ordered.{ready, refusal, ordered, outcomeOf, IsOrder, columnsIn}
+use Rattle.order.specs.Ordered.{ready, refusal, ordered, outcomeOf, IsOrder, columnsIn, IsColumns}
 use Rattle.order.proofs.Nodes.{each-once}
 use Rattle.order.proofs.Links.{linked-yes}
 use Rattle.order.proofs.Pushed.{shape-size, shape-aimed}
@@ -46,12 +49,18 @@ module _ (n : ℕ) (sources sinks : Ends) (l : EndsLinked n sources) (m : EndsLi
       ap (λ (k : ℕ). cs ++ replicate (48 - k) 0) (sym size-in) ∙ sym (padded-is 48 0 cs few)
 
   -- what `order_of` answers, and that each node has a column of its own
-  pub columns-in : columnsIn n sources sinks ≡ columns (shapeFrom n sources sinks) ++ replicate (48 - n) 0
+  answer-in : columnsIn n sources sinks ≡ record { linked = true; columns = columns (shapeFrom n sources sinks) ++ replicate (48 - n) 0 }
   unfolding columnsIn
-  columns-in = rw (linked-yes n sources l, linked-yes n sinks m) (sym whole-in)
+  answer-in = rw (linked-yes n sources l, linked-yes n sinks m, whole-in)
 
-  pub columns-each : EachOnce n (take n (columnsIn n sources sinks))
+  pub columns-in : columnsIn n sources sinks .columns ≡ columns (shapeFrom n sources sinks) ++ replicate (48 - n) 0
+  columns-in = ap (λ (a : ColumnsAnswer). a .columns) answer-in
+
+  pub columns-each : EachOnce n (take n (columnsIn n sources sinks .columns))
   columns-each = rw (columns-in, take-at (columns (shapeFrom n sources sinks)) (replicate (48 - n) 0) n size-in) once-in
+
+  pub columns-are : (r : ColumnsAnswer) → r ≡ record { linked = true; columns = columns (shapeFrom n sources sinks) ++ replicate (48 - n) 0 } → IsColumns n sources sinks r
+  columns-are r e = let w = e ∙ sym answer-in in record { whole = w; each = λ h. rw w columns-each }
 
 -- ---- from the tables
 module _ (t : Tables) (long : length (t .sources .items) ≡ 88) (long₂ : length (t .sinks .items) ≡ 88) (l : Linked t) where
@@ -78,18 +87,24 @@ module _ (s : List ℕ) (o : GraphOutcome) (a : Graphs s o) where
   ready-same : (cs ds : List ℕ) → ready cs ≡ ready ds → cs ≡ ds
   ready-same cs ds e = cc
 
+  numbers-of : (r : Outcome) → r ≡ outcomeOf (ordered s) → (number second : ℕ) → ordered s ≡ refusal number second → numbersOf (r .answer) ≡ numbers number second
+  numbers-of r w number second e = ap (λ (u : Outcome). numbersOf (u .answer)) (w ∙ ap outcomeOf e)
+
   pub order-refused : (number second : ℕ) → o .answer ≡ Refused number second → (r : Outcome) → r ≡ outcomeOf (refusal number second) → IsOrder s r
   unfolding ordered
   order-refused number second q r e =
       let g : graphed s ≡ refused number second = sym (a .graphs) ∙ rw q in
-      record { whole = rw g e; each = λ cs h. refused-none number second cs (rw g at h) }
+      let w : r ≡ outcomeOf (ordered s) = rw g e in
+      record { whole = w; refused = numbers-of r w; each = λ cs h. refused-none number second cs (rw g at h) }
 
   pub order-ready : o .answer ≡ Ready → (r : Outcome) → r ≡ outcomeOf (ready (columns (shapeOf (graphOf (o .graph))))) → IsOrder s r
   unfolding ordered
   order-ready q r e =
       let t = o .graph in
       let g : graphed s ≡ cut (record { graph = graphOf t; cuts = t .cuts }) = sym (a .graphs) ∙ rw q in
+      let w : r ≡ outcomeOf (ordered s) = rw g e in
       record {
-        whole = rw g e;
+        whole = w;
+        refused = numbers-of r w;
         each = λ cs h. subst (λ (ds : List ℕ). EachOnce (length ds) ds) (ready-same (columns (shapeOf (graphOf t))) cs (rw g at h)) (once t (sources-long s o a) (sinks-long s o a) (a .sound .linked));
       }

@@ -11,7 +11,7 @@ use borrow.Author.Tests.{lt-ltb, le-ltb}
 use Rattle.laws.specs.Lists.{All}
 use Rattle.laws.proofs.Tests.{less?}
 use Rattle.order.specs.Weights.{Table, of, stands, beforeOf, afterOf, round}
-use Rattle.order.specs.Sums.{at, sumsOf, legOf, sumUp, waysOf, roundAt, Hold}
+use Rattle.order.specs.code.Sums.{at, sumsOf, legOf, sumUp, waysOf, takes, roundAt, Hold}
 use Rattle.order.proofs.Tables.{valueOf, value-missing}
 use Rattle.order.proofs.Legs.{sumTo, sum-zero, leg}
 use Rattle.order.proofs.Rounds.{Fine, Flagged, fine-round, stands-sum, not-rising, Sum, Reads, gain, round-made, second}
@@ -77,6 +77,10 @@ module _ (n : ℕ) (t : Table) (f : Fine n t) (s : List ℕ) (h : Hold n t s) wh
   on : (a b : ℕ) → a < b → b < n → ltb 0 (at s a b) ≡ stands a b t
   on a b i j = ap (ltb 0) (h a b i j) ∙ some-same (beforeOf a b t) (afterOf a b t) ∙ sym (stands-sum n a b t (f .each))
 
+  -- where no pairs are made, those that stand take part
+  takes-standing : (a b : ℕ) → a < b → b < n → takes false (at s a b) ≡ stands a b t
+  takes-standing a b i j = on a b i j
+
   module _ (a c : ℕ) (l : a < c) (k : c < n) where
     leg-is : (b : ℕ) → a < b → b < c → legOf s a c b ≡ leg packed (packed-reads .adds) t t a c b
     leg-is b i j = rw (on a b i (omega arith), on b c j k, value a b i (omega arith), value b c j k)
@@ -98,7 +102,7 @@ module _ (n : ℕ) (t : Table) (f : Fine n t) (s : List ℕ) (h : Hold n t s) wh
     stood false e = let z : valueOf packed a c t ≡ 0 = value-missing packed a c t e in omega arith
 
     pub stood-is : roundAt false s a c ≡ cond (stands a c t) (valueOf packed a c t + gains) 0
-    stood-is = rw (on a c l k, value a c l k, ways-are) (stood (stands a c t) refl)
+    stood-is = rw (takes-standing a c l k, value a c l k, ways-are) (stood (stands a c t) refl)
 
 -- round 2, on a table after round 1
 pub stood-again : (n : ℕ) (t : Table) (f : Fine n t) → All Flagged t → (s : List ℕ) → Hold n (round t) s → (a c : ℕ) → a < c → c < n →

@@ -4,14 +4,14 @@ use Prim.Native.Nat.{ℕ, zero, suc, _+_, _-_, _≤_, _<_}
 use native.Mathlib.Omega.{arith}
 use mathlib.Core.Logic.{inl, inr}
 use mathlib.Core.Path.{_≡_, refl, ap, sym, _∙_}
-use mathlib.Core.Bool.{Bool, true, false, cond, _||_}
+use mathlib.Core.Bool.{Bool, true, false, cond}
 use mathlib.Core.List.{List}
 use lib.Dec.{ltb}
 use lib.ListN.{length, getD, set, length-set}
 use lib.Seq.{getD-set-same, getD-set-other, set-getD}
 use borrow.Author.Tests.{lt-ltb, le-ltb, ltb-true, ltb-false}
 use Rattle.laws.proofs.Tests.{less?, same?}
-use Rattle.order.specs.Sums.{pairAt, at, raised, legOf, sumUp, waysOf, wayOf, partAt, roundAt, Over, Row, Rows, OverFits, RowFits, RoundFits}
+use Rattle.order.specs.code.Sums.{pairAt, at, raised, legOf, sumUp, waysOf, takes, wayOf, partAt, roundAt, Over, Row, Rows, OverFits, RowFits, RoundFits}
 use Rattle.order.proofs.Triangle.{pair-same, pair-below}
 
 -- ---- sums
@@ -41,7 +41,7 @@ module _ (make : Bool) (l : List ℕ) (a c : ℕ) where
   part-none k h =
       let e : c - suc k ≡ 0 = omega arith in
       let z : waysOf l a c k ≡ 0 = ap (sumUp (legOf l a c) k) e ∙ up-none (legOf l a c) k in
-      rw (z, none (make || ltb 0 (at l a c))) (omega arith)
+      rw (z, none (takes make (at l a c))) (omega arith)
 
   ways-next : (k : ℕ) → suc k < c → waysOf l a c k ≡ legOf l a c (suc k) + waysOf l a c (suc k)
   ways-next k h =
@@ -49,7 +49,7 @@ module _ (make : Bool) (l : List ℕ) (a c : ℕ) where
       ap (sumUp (legOf l a c) k) e ∙ up-first (legOf l a c) k (c - suc (suc k))
 
   part-next : (k : ℕ) → suc k < c → partAt make l a c k ≡ partAt make l a c (suc k) + wayOf make l a c (suc k)
-  part-next k h = go (make || ltb 0 (at l a c)) (ways-next k h)
+  part-next k h = go (takes make (at l a c)) (ways-next k h)
     where
       go : (b : Bool) → waysOf l a c k ≡ legOf l a c (suc k) + waysOf l a c (suc k) →
           at l a c + cond b (waysOf l a c k) 0 ≡ at l a c + cond b (waysOf l a c (suc k)) 0 + cond b (legOf l a c (suc k)) 0
@@ -84,7 +84,7 @@ pub over-none : (make : Bool) (n a b : ℕ) (t : List ℕ) → at t a b ≡ 0 �
 over-none make n a b t e =
     record {
       long = refl;
-      more = λ c i j. let z : wayOf make t a c b ≡ 0 = rw (e, none (make || ltb 0 (at t a c))) in omega arith;
+      more = λ c i j. let z : wayOf make t a c b ≡ 0 = rw (e, none (takes make (at t a c))) in omega arith;
       same = λ x y i j o. refl;
     }
 
@@ -110,28 +110,28 @@ module _ {make : Bool} {c a b p q x : ℕ} {t r : List ℕ} (w : Going make c a 
   next-same : at r b c ≡ at t b c
   next-same = w .over .same b c (w .next) (w .below) (λ e. omega (arith, e .0, w .rising))
 
-  adds : 0 < getD r q 0 → (make || ltb 0 (getD r p 0)) ≡ true → wayOf make t a c b ≡ x + getD r q 0
+  adds : 0 < getD r q 0 → takes make (getD r p 0) ≡ true → wayOf make t a c b ≡ x + getD r q 0
   adds y s =
-      let part : (make || ltb 0 (at t a c)) ≡ true = rw (← last-same, ← w .here) s in
+      let part : takes make (at t a c) ≡ true = rw (← last-same, ← w .here) s in
       let stands : 0 < at t b c = rw (w .there, next-same) at y in
       rw (part, lt-ltb 0 (at t a b) (w .some), lt-ltb 0 (at t b c) stands, w .first, w .there, next-same)
 
-  pub over-sum : 0 < getD r q 0 → (make || ltb 0 (getD r p 0)) ≡ true → getD r p 0 + (x + getD r q 0) ≡ at t a c + wayOf make t a c b
+  pub over-sum : 0 < getD r q 0 → takes make (getD r p 0) ≡ true → getD r p 0 + (x + getD r q 0) ≡ at t a c + wayOf make t a c b
   over-sum y s = let z : getD r p 0 ≡ at t a c = rw (w .here) last-same in omega (arith, adds y s)
 
-  pub over-stores : 0 < getD r q 0 → (make || ltb 0 (getD r p 0)) ≡ true → set r p (getD r p 0 + (x + getD r q 0)) ≡ raised r a c (wayOf make t a c b)
+  pub over-stores : 0 < getD r q 0 → takes make (getD r p 0) ≡ true → set r p (getD r p 0 + (x + getD r q 0)) ≡ raised r a c (wayOf make t a c b)
   over-stores y s = rw (adds y s, w .here)
 
   keep : wayOf make t a c b ≡ 0 → r ≡ raised r a c (wayOf make t a c b)
   keep e = let d : at r a c ≡ at r a c + wayOf make t a c b = omega arith in sym (set-getD r (pairAt a c) 0) ∙ ap (set r (pairAt a c)) d
 
-  pub over-out : (make || ltb 0 (getD r p 0)) ≡ false → r ≡ raised r a c (wayOf make t a c b)
-  over-out s = let part : (make || ltb 0 (at t a c)) ≡ false = rw (← last-same, ← w .here) s in keep (rw part)
+  pub over-out : takes make (getD r p 0) ≡ false → r ≡ raised r a c (wayOf make t a c b)
+  over-out s = let part : takes make (at t a c) ≡ false = rw (← last-same, ← w .here) s in keep (rw part)
 
   pub over-missing : getD r q 0 ≤ 0 → r ≡ raised r a c (wayOf make t a c b)
   over-missing y =
       let missing : at t b c ≤ 0 = rw (w .there, next-same) at y in
-      keep (rw (le-ltb 0 (at t b c) missing, none (ltb 0 (at t a b)), none (make || ltb 0 (at t a c))))
+      keep (rw (le-ltb 0 (at t b c) missing, none (ltb 0 (at t a b)), none (takes make (at t a c))))
 
   pub over-step : Over make (suc c) a b t (raised r a c (wayOf make t a c b))
   over-step =
@@ -157,13 +157,13 @@ module _ {make : Bool} {c a b p q x : ℕ} {t r : List ℕ} (w : Going make c a 
       less y c o m = omega arith
 
 -- ---- a row: the nodes between fall
-stays : (make : Bool) (v w r : ℕ) → r ≡ v + cond (make || ltb 0 v) w 0 → (make || ltb 0 r) ≡ (make || ltb 0 v)
+stays : (make : Bool) (v w r : ℕ) → r ≡ v + cond (takes make v) w 0 → takes make r ≡ (takes make v)
 stays true v w r e = refl
-stays false v w r e = go (ltb 0 v) refl e
+stays false v w r e = go (takes false v) refl e
   where
-    go : (s : Bool) → ltb 0 v ≡ s → r ≡ v + cond s w 0 → ltb 0 r ≡ s
-    go true k h = lt-ltb 0 r (omega (arith, ltb-true 0 v k))
-    go false k h = le-ltb 0 r (omega (arith, ltb-false 0 v k))
+    go : (s : Bool) → takes false v ≡ s → r ≡ v + cond s w 0 → takes false r ≡ s
+    go true k h = lt-ltb _ r (omega (arith, ltb-true _ v k))
+    go false k h = le-ltb _ r (omega (arith, ltb-false _ v k))
 
 module _ (make : Bool) (n a : ℕ) (few : n ≤ 48) (t r : List ℕ) (b : ℕ) (i : a < b) (w : Row make n a b t r) where
   -- the way over b is as it was when the round began
@@ -204,12 +204,19 @@ module _ (make : Bool) (n a : ℕ) (few : n ≤ 48) (t r : List ℕ) (b : ℕ) (
       }
 
 -- ---- a round: the rows rise
+-- the rows from a on are as they were when the round began
+abbrev pub Begun : ℕ → ℕ → List ℕ → List ℕ → Type 0
+Begun n a t r = (x y : ℕ) → x < y → y < n → a ≤ x → at r x y ≡ at t x y
+
 -- what a round makes of the pair of a and c depends on pairs whose smaller node is not below a
-agree : (make : Bool) (n a c : ℕ) (t r : List ℕ) → a < c → c < n → ((x y : ℕ) → x < y → y < n → a ≤ x → at r x y ≡ at t x y) → roundAt make r a c ≡ roundAt make t a c
+agree : (make : Bool) (n a c : ℕ) (t r : List ℕ) → a < c → c < n → Begun n a t r → roundAt make r a c ≡ roundAt make t a c
 agree make n a c t r i j h =
     let w : waysOf r a c a ≡ waysOf t a c a =
     up-same (legOf r a c) (legOf t a c) a (c - suc a) (λ k l. rw (h a (suc a + k) (omega arith) (omega arith) (omega arith), h (suc a + k) c (omega arith) j (omega arith))) in
     rw (h a c i j (omega arith), w)
+
+pub rows-fit : (make : Bool) (n a : ℕ) (t r : List ℕ) → length r ≡ length t → Begun n a t r → RoundFits make n t → a < n → RowFits make n a r
+rows-fit make n a t r e h f l = record { long = e ∙ f .long; few = f .few; inside = l; fits = λ c i j. rw (agree make n a c t r i j h) (f .fits a c i j) }
 
 module _ (make : Bool) (n a : ℕ) (few : n ≤ 48) (t r : List ℕ) (w : Rows make n a t r) where
   pub rows-step : (s : List ℕ) → Row make n a a r s → Rows make n (suc a) t s
@@ -227,6 +234,3 @@ module _ (make : Bool) (n a : ℕ) (few : n ≤ 48) (t r : List ℕ) (w : Rows m
     where
       earlier : (x a : ℕ) → (x ≡ a → ⊥) → x < suc a → x < a
       earlier x a o i = omega arith
-
-  pub rows-fit : RoundFits make n t → a < n → RowFits make n a r
-  rows-fit f l = record { long = w .long ∙ f .long; few = f .few; inside = l; fits = λ c i j. rw (agree make n a c t r i j (w .same)) (f .fits a c i j) }

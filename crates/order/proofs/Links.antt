@@ -2,7 +2,7 @@
 -- Assumes nothing.
 use Prim.Native.Nat.{ℕ, zero, suc, _≤_, _<_}
 use native.Mathlib.Omega.{arith}
-use mathlib.Core.Path.{_≡_, refl}
+use mathlib.Core.Path.{_≡_, refl, ap, sym, _∙_}
 use mathlib.Core.Bool.{true, false, _&&_}
 use mathlib.Core.List.{List, [], _∷_}
 use lib.Dec.{leb, ltb}
@@ -13,8 +13,9 @@ use Rattle.laws.specs.Bytes.{allOf}
 use Rattle.laws.proofs.Lists.{test-at}
 use Rattle.graph.specs.declared.Ends.{Ends}
 use Rattle.graph.specs.Ends.{Linked}
-use Rattle.order.specs.Ordered.{linkedOf, columnsIn}
-use Rattle.order.proofs.Tables.{and-left, and-right}
+use Rattle.order.specs.declared.ColumnsAnswer.{ColumnsAnswer}
+use Rattle.order.specs.Ordered.{linkedOf, columnsIn, IsColumns}
+use Rattle.order.proofs.Tables.{true-false, and-left, and-right}
 
 module _ (n : ℕ) where
   all-below : (m : ℕ) (xs : List ℕ) → ((k : ℕ) → k < m → getD xs k 0 < n) → allOf (λ (x : ℕ). ltb x n) (take m xs) ≡ true
@@ -48,6 +49,6 @@ module _ (n : ℕ) (e : Ends) where
       }
 
 -- no columns where the ends are not linked
-pub columns-none : (n : ℕ) (sources sinks : Ends) → (linkedOf n sources && linkedOf n sinks) ≡ false → replicate 48 0 ≡ columnsIn n sources sinks
+pub columns-none : (n : ℕ) (sources sinks : Ends) → (linkedOf n sources && linkedOf n sinks) ≡ false → (r : ColumnsAnswer) → r ≡ record { linked = false; columns = replicate 48 0 } → IsColumns n sources sinks r
 unfolding columnsIn
-columns-none n sources sinks h = rw h
+columns-none n sources sinks h r e = record { whole = e ∙ rw h; each = λ l. true-false (sym l ∙ ap (λ (a : ColumnsAnswer). a .linked) e) }

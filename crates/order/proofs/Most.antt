@@ -17,7 +17,7 @@ use Rattle.laws.specs.Lists.{All, tally}
 use Rattle.order.specs.Against.{Against, against, all}
 use Rattle.order.specs.Weights.{Table, stands, beforeOf, afterOf, round, first}
 use Rattle.order.specs.Claims.{Aimed}
-use Rattle.order.specs.Sums.{sumUp}
+use Rattle.order.specs.code.Sums.{sumUp}
 use Rattle.order.proofs.Tables.{valueOf, before-value, after-value}
 use Rattle.order.proofs.Legs.{leg}
 use Rattle.order.proofs.Rounds.{Fine, Flagged, fine-first, flagged-first, fine-round, Sum, Reads, before-reads, after-reads, gain, round-made, second, ups, before-first, after-first}

@@ -21,8 +21,8 @@ use Rattle.graph.specs.Shape.{Incidents}
 use Rattle.graph.specs.Ends.{targetsOf, endsOf, incidentsIn, shapeFrom, Linked}
 use Rattle.order.specs.Against.{Against, against, neighbours, neighboursFrom, reversedIf, withSources, withSinks, ofNode, ofNodes, all}
 use Rattle.order.specs.Claims.{Under, Aimed}
-use Rattle.order.specs.Sums.{codeOf, Codes}
-use Rattle.order.specs.Codes.{neighbourCode, neighbourCodes, pairCode, pairCodes, withFrom, listCodes, nodeCodes}
+use Rattle.order.specs.code.Sums.{codeOf, Codes}
+use Rattle.order.specs.code.Codes.{neighbourCode, neighbourCodes, pairCode, pairCodes, withFrom, listCodes, nodeCodes}
 use Rattle.order.proofs.Legs.{sumTo, sum-zero, sum-same}
 
 -- ---- the targets of a node

@@ -16,8 +16,8 @@ use Rattle.order.specs.declared.NodeNumber.{NodeNumber}
 use Rattle.order.specs.declared.chains.Colour.{Colour}
 use Rattle.order.specs.declared.chains.Held.{Held}
 use Rattle.order.specs.Chains.{Chains, chain, has, chainOf, join, link, single}
-use Rattle.order.specs.Held.{colour, number, colourAt, placeAt, lengthAt, firstAt, separateOf, recolour, move, joinedOf, pairOf, Fit}
-use Rattle.order.specs.Stand.{At, Has, Stand}
+use Rattle.order.specs.code.Held.{colour, number, colourAt, placeAt, lengthAt, firstAt, separateOf, recolour, move, joinedOf, pairOf, Fit}
+use Rattle.order.specs.code.Stand.{At, Has, Stand}
 use Rattle.order.proofs.Flat.{flat}
 use Rattle.order.proofs.Fills.{length-filled, filled-at}
 use Rattle.order.proofs.Nodes.{Sound, length-join}

@@ -16,7 +16,7 @@ use Rattle.laws.proofs.Tests.{same?}
 use Rattle.graph.specs.Shape.{Shape}
 use Rattle.order.specs.Against.{Against, against, all}
 use Rattle.order.specs.Weights.{Table, count, counted, first}
-use Rattle.order.specs.Sums.{pairAt, at, sumsOf, raised, countOf, tallied, codeOf, firstIn, secondIn, Coded, Codes, Hold}
+use Rattle.order.specs.code.Sums.{pairAt, at, sumsOf, raised, countOf, tallied, codeOf, firstIn, secondIn, Coded, Codes, Hold}
 use Rattle.order.proofs.Nodes.{Both, both-all}
 use Rattle.order.proofs.Triangle.{pair-same, pair-below}
 use Rattle.order.proofs.Tables.{and-left, and-right, valueOf}

@@ -6,7 +6,7 @@ use native.Mathlib.Nat.{mul-le-mul, mul-suc, suc-mul}
 use mathlib.Core.Logic.{inl, inr}
 use mathlib.Core.Path.{_≡_, ap, _∙_}
 use Rattle.laws.proofs.Tests.{less?, same?}
-use Rattle.order.specs.Sums.{rowAt, pairAt}
+use Rattle.order.specs.code.Sums.{rowAt, pairAt}
 
 pub row-product : (a : ℕ) → a < 48 → a * (93 - a) ≤ 4371
 row-product a k = mul-le-mul {n₁ = a} {m₁ = 93 - a} {n₂ = 47} {m₂ = 93} (omega arith) (omega arith)

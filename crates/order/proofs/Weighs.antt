@@ -3,13 +3,12 @@
 use Prim.Native.Nat.{ℕ, zero, suc, _≤_, _<_}
 use native.Mathlib.Omega.{arith}
 use mathlib.Core.Path.{_≡_, refl, subst, sym, _∙_, ap}
-use mathlib.Core.Bool.{true, false}
 use mathlib.Core.List.{List}
 use lib.ListN.{length, getD, replicate, length-replicate}
 use Rattle.graph.specs.Shape.{Shape}
 use Rattle.order.specs.Against.{all}
 use Rattle.order.specs.Weights.{beforeOf, afterOf, round, first, weights}
-use Rattle.order.specs.Sums.{tallied, sumsOf, roundAt, Rows, RoundFits, Codes, Hold}
+use Rattle.order.specs.code.Sums.{tallied, sumsOf, makes₁, makes₂, roundAt, Rows, RoundFits, Codes, Hold}
 use Rattle.order.proofs.Rounds.{fine-first, flagged-first}
 use Rattle.order.proofs.Hold.{made-is, stood-again}
 use Rattle.order.proofs.Start.{hold-first, tallied-long}
@@ -32,10 +31,10 @@ module _ (g : Shape) (xs : List ℕ) (c : ℕ) (d : Codes g xs c) where
     hold₀ : Hold (length g) (first g) s
     hold₀ = subst (Hold (length g) (first g)) (sym h) (hold-first g xs c d (replicate 1128 0) (length-replicate {A = ℕ} 1128 0) (zeros-at 1128))
 
-    made : (a b : ℕ) → a < b → b < length g → roundAt true s a b ≡ sumsOf (beforeOf a b (round (first g))) (afterOf a b (round (first g)))
+    made : (a b : ℕ) → a < b → b < length g → roundAt makes₁ s a b ≡ sumsOf (beforeOf a b (round (first g))) (afterOf a b (round (first g)))
     made a b i j = made-is (length g) (first g) (fine-first g (d .aimed)) s hold₀ a b i j (flagged-first g)
 
-    pub fits-first : RoundFits true (length g) s
+    pub fits-first : RoundFits makes₁ (length g) s
     fits-first =
         record {
           long = long;
@@ -44,14 +43,14 @@ module _ (g : Shape) (xs : List ℕ) (c : ℕ) (d : Codes g xs c) where
         }
 
     -- round 2: q is the table after it
-    module _ (r : List ℕ) (w : Rows true (length g) (length g) s r) where
+    module _ (r : List ℕ) (w : Rows makes₁ (length g) (length g) s r) where
       hold₁ : Hold (length g) (round (first g)) r
       hold₁ a b i j = w .did a b i j (omega arith) ∙ made a b i j
 
-      stood : (a b : ℕ) → a < b → b < length g → roundAt false r a b ≡ sumsOf (beforeOf a b (round (round (first g)))) (afterOf a b (round (round (first g))))
+      stood : (a b : ℕ) → a < b → b < length g → roundAt makes₂ r a b ≡ sumsOf (beforeOf a b (round (round (first g)))) (afterOf a b (round (round (first g))))
       stood a b i j = stood-again (length g) (first g) (fine-first g (d .aimed)) (flagged-first g) r hold₁ a b i j
 
-      pub fits-second : RoundFits false (length g) r
+      pub fits-second : RoundFits makes₂ (length g) r
       fits-second =
           record {
             long = w .long ∙ long;
@@ -59,6 +58,6 @@ module _ (g : Shape) (xs : List ℕ) (c : ℕ) (d : Codes g xs c) where
             fits = λ a b i j. omega (arith, stood a b i j, before-most g (d .few) (d .aimed) room a b i j, after-most g (d .few) (d .aimed) room a b i j);
           }
 
-      pub weighed : (q : List ℕ) → Rows false (length g) (length g) r q → Hold (length g) (weights g) q
+      pub weighed : (q : List ℕ) → Rows makes₂ (length g) (length g) r q → Hold (length g) (weights g) q
       unfolding weights
       weighed q v a b i j = v .did a b i j (omega arith) ∙ stood a b i j

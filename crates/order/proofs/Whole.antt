@@ -1,4 +1,4 @@
--- The code's tables, keys and chains of a graph are those of the definitions, up to the first columns.
+-- The code's table, keys and chains of a graph are those of the definitions, up to the first columns.
 -- Assumes nothing.
 use Prim.Native.Nat.{ℕ, zero, suc, _+_, _-_, _*_, _/_, _%_, _≤_, _<_}
 use native.Mathlib.Omega.{arith}
@@ -17,10 +17,10 @@ use Rattle.order.specs.Weights.{Table, stands, beforeOf, afterOf, round,
 use Rattle.order.specs.Chains.{Triple, triple, turned, tripleOf, placed, rising, triples, chains, order, columns}
 use Rattle.order.specs.Claims.{EachOnce}
 use Rattle.order.specs.declared.chains.Held.{Held}
-use Rattle.order.specs.Held.{laidFirst, laidOf, Ready, Fit, colourAt, placeAt, columnOf, columnsOf}
-use Rattle.order.specs.Stand.{Stand}
-use Rattle.order.specs.Keys.{keyOf, heldAfter, Keyed}
-use Rattle.order.specs.Sums.{at, sumsOf, firstIn, secondIn, turnKey, keyAt, keysAfter, Codes, Charted, Hold, Weighed}
+use Rattle.order.specs.code.Held.{laidFirst, laidOf, Ready, Fit, colourAt, placeAt, columnOf, columnsOf}
+use Rattle.order.specs.code.Stand.{Stand}
+use Rattle.order.specs.code.Keys.{keyOf, heldAfter, Keyed}
+use Rattle.order.specs.code.Sums.{at, sumsOf, firstIn, secondIn, turnKey, keyAt, keysAfter, Codes, Charted, Hold, Weighed}
 use Rattle.order.proofs.Nodes.{Sound, Both, both-all, Firsts, firsts-map, firsts-rising, firsts-triples, sound-chains, each-once}
 use Rattle.order.proofs.Fills.{filled-whole}
 use Rattle.order.proofs.Stand.{fit}

@@ -1,11 +1,19 @@
 -- The definitions run: the first columns of the charts on which another reading of document 01 gives another sheet, and of some drawn
 -- at random. The graphs are those after module 3, and the columns those of a program that others wrote from document 01.
+-- Then ends as a caller may hand them over: linked, and not.
 -- Assumes nothing.
 use Prim.Native.Nat.{ℕ}
 use mathlib.Core.Path.{_≡_, refl}
+use mathlib.Core.Bool.{true, false}
 use mathlib.Core.List.{List, [], _∷_}
+use lib.ListN.{replicate}
+use Rattle.laws.specs.Lists.{padded}
+use Rattle.graph.specs.declared.Ends.{Ends}
+use Rattle.graph.specs.Ends.{shapeFrom}
 use Rattle.graph.specs.Shape.{Incidents}
+use Rattle.order.specs.declared.ColumnsAnswer.{ColumnsAnswer}
 use Rattle.order.specs.Chains.{columns}
+use Rattle.order.specs.Ordered.{columnsIn}
 
 abbrev ends : List ℕ → List ℕ → Incidents
 ends sources sinks = record { sources = sources; sinks = sinks }
@@ -109,3 +117,45 @@ random-4 = refl
 random-5 : columns (ends (11 ∷ []) (6 ∷ []) ∷ ends (2 ∷ []) ([]) ∷ ends (4 ∷ 9 ∷ 9 ∷ 15 ∷ []) (8 ∷ 7 ∷ 1 ∷ 16 ∷ 5 ∷ []) ∷ ends (5 ∷ 7 ∷ []) (12 ∷ []) ∷ ends (6 ∷ 17 ∷ 13 ∷ 6 ∷ []) (2 ∷ []) ∷ ends (2 ∷ 7 ∷ 6 ∷ []) (14 ∷ 3 ∷ []) ∷ ends (0 ∷ []) (4 ∷ 5 ∷ []) ∷ ends (2 ∷ []) (10 ∷ 3 ∷ 5 ∷ []) ∷ ends (2 ∷ []) ([]) ∷ ends ([]) (2 ∷ []) ∷ ends (7 ∷ []) ([]) ∷ ends ([]) (0 ∷ []) ∷ ends (3 ∷ []) ([]) ∷ ends ([]) (4 ∷ []) ∷ ends (5 ∷ []) ([]) ∷ ends ([]) (2 ∷ []) ∷ ends (2 ∷ []) ([]) ∷ ends ([]) (4 ∷ []) ∷ []) ≡ 28 ∷ 4 ∷ 6 ∷ 12 ∷ 8 ∷ 14 ∷ 26 ∷ 24 ∷ 22 ∷ 10 ∷ 34 ∷ 30 ∷ 2 ∷ 20 ∷ 32 ∷ 16 ∷ 0 ∷ 18 ∷ []
 unfolding columns
 random-5 = refl
+
+-- the first count ends of these owners and targets
+abbrev held : ℕ → List ℕ → List ℕ → Ends
+held count owners targets = record { owner = padded 88 0 owners; to = padded 88 0 targets; count = count }
+
+abbrev no-ends : Ends
+no-ends = held 0 [] []
+
+abbrev linked-with : List ℕ → ColumnsAnswer
+linked-with cs = record { linked = true; columns = padded 48 0 cs }
+
+abbrev not-linked : ColumnsAnswer
+not-linked = record { linked = false; columns = replicate 48 0 }
+
+ends-linked : columnsIn 2 (held 1 (1 ∷ []) (0 ∷ [])) (held 1 (0 ∷ []) (1 ∷ [])) ≡ linked-with (2 ∷ 0 ∷ [])
+unfolding columnsIn columns shapeFrom
+ends-linked = refl
+
+one-node : columnsIn 1 no-ends no-ends ≡ linked-with (0 ∷ [])
+unfolding columnsIn columns shapeFrom
+one-node = refl
+
+-- what is past the count is not read
+past-count : columnsIn 1 (held 0 (7 ∷ []) (7 ∷ [])) no-ends ≡ linked-with (0 ∷ [])
+unfolding columnsIn columns shapeFrom
+past-count = refl
+
+nodes-49 : columnsIn 49 no-ends no-ends ≡ not-linked
+unfolding columnsIn
+nodes-49 = refl
+
+count-89 : columnsIn 2 no-ends (held 89 [] []) ≡ not-linked
+unfolding columnsIn
+count-89 = refl
+
+owner-past : columnsIn 2 no-ends (held 1 (2 ∷ []) (1 ∷ [])) ≡ not-linked
+unfolding columnsIn
+owner-past = refl
+
+target-past : columnsIn 2 (held 1 (1 ∷ []) (2 ∷ [])) no-ends ≡ not-linked
+unfolding columnsIn
+target-past = refl

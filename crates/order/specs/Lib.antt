@@ -3,10 +3,6 @@ pub mod Against
 pub mod Weights
 pub mod Chains
 pub mod Claims
-pub mod Held
-pub mod Stand
-pub mod Keys
-pub mod Sums
-pub mod Codes
 pub mod Ordered
 pub mod Cases
+pub mod code

@@ -2,7 +2,7 @@
 -- Assumes nothing.
 use Prim.Native.Nat.{ℕ}
 use mathlib.Core.Path.{_≡_}
-use mathlib.Core.Bool.{Bool, cond, _&&_}
+use mathlib.Core.Bool.{Bool, true, false, cond, _&&_}
 use mathlib.Core.List.{List}
 use lib.Dec.{leb, ltb}
 use lib.ListN.{length, take, replicate}
@@ -10,11 +10,13 @@ use Rattle.laws.specs.Bytes.{allOf}
 use Rattle.laws.specs.Lists.{padded}
 use Rattle.chart.specs.declared.Answer.{Answer}
 use Rattle.chart.specs.declared.Answer.the-variants.{Ready, Refused}
+use Rattle.chart.specs.Read.{numbers, numbersOf}
 use Rattle.graph.specs.Graphed.{Graphed, ready as cut, refusal as refused, graphed}
 use Rattle.graph.specs.declared.Ends.{Ends}
 use Rattle.graph.specs.Ends.{shapeFrom}
 use Rattle.graph.specs.Shape.{shapeOf}
 use Rattle.order.specs.declared.Outcome.{Outcome}
+use Rattle.order.specs.declared.ColumnsAnswer.{ColumnsAnswer}
 use Rattle.order.specs.Chains.{columns}
 use Rattle.order.specs.Claims.{EachOnce}
 
@@ -38,8 +40,9 @@ outcomeOf (refusal number second) = record { answer = Refused number second; cou
 
 -- what `order` promises
 pub record IsOrder (s : List ℕ) (r : Outcome) : Type 0 where
-  -- every field of the answer is the definition's
+  -- every field of the answer is the definition's; a refusal is document 01's two numbers
   pub whole : r ≡ outcomeOf (ordered s)
+  pub refused : (number second : ℕ) → ordered s ≡ refusal number second → numbersOf (r .answer) ≡ numbers number second
   -- the columns are 0, 2, .. 2(N - 1), each node exactly one
   pub each : (cs : List ℕ) → ordered s ≡ ready cs → EachOnce (length cs) cs
 
@@ -49,6 +52,16 @@ abbrev pub linkedOf : ℕ → Ends → Bool
 linkedOf n e =
     leb n 48 && (leb (e .count) 88 && (allOf (λ (o : ℕ). ltb o n) (take (e .count) (e .owner)) && allOf (λ (t : ℕ). ltb t n) (take (e .count) (e .to))))
 
--- the first columns of n nodes with these sources and sinks; 0 past them, and where the ends are not linked
-unfoldable pub columnsIn : ℕ → Ends → Ends → List ℕ
-columnsIn n sources sinks = cond (linkedOf n sources && linkedOf n sinks) (padded 48 0 (columns (shapeFrom n sources sinks))) (replicate 48 0)
+-- whether the ends are linked, and the first columns of n nodes with these sources and sinks; 0 past them, and where the ends are not linked
+unfoldable pub columnsIn : ℕ → Ends → Ends → ColumnsAnswer
+columnsIn n sources sinks =
+    cond (linkedOf n sources && linkedOf n sinks)
+    (record { linked = true; columns = padded 48 0 (columns (shapeFrom n sources sinks)) })
+    (record { linked = false; columns = replicate 48 0 })
+
+-- what `order_of` promises
+pub record IsColumns (n : ℕ) (sources sinks : Ends) (r : ColumnsAnswer) : Type 0 where
+  -- every field is the definition's
+  pub whole : r ≡ columnsIn n sources sinks
+  -- where the ends are linked, the columns are 0, 2, .. 2(n - 1), each node exactly one
+  pub each : r .linked ≡ true → EachOnce n (take n (r .columns))

@@ -6,8 +6,8 @@ ghost use lib.Seq.{sets};
 ghost use Rattle.laws.specs.Lists.{padded};
 ghost use Rattle.graph.specs.Ends.{endsOf, incidentsIn, shapeFrom, Linked};
 ghost use Rattle.order.specs.Against.{against, reversedIf};
-ghost use Rattle.order.specs.Sums.{codeOf, Codes};
-ghost use Rattle.order.specs.Codes.{neighbourCodes, pairCodes, listCodes, nodeCodes};
+ghost use Rattle.order.specs.code.Sums.{codeOf, Codes};
+ghost use Rattle.order.specs.code.Codes.{neighbourCodes, pairCodes, listCodes, nodeCodes};
 use graph::Ends;
 
 // Where the sources of one node lead, or its sinks, in order.

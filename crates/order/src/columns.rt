@@ -7,7 +7,7 @@ ghost use Rattle.graph.specs.Ends.{shapeFrom, Linked};
 ghost use Rattle.graph.specs.Shape.{Shape};
 ghost use Rattle.order.specs.Chains.{columns};
 ghost use Rattle.order.specs.Claims.{EachOnce};
-ghost use Rattle.order.specs.Sums.{Codes, Charted};
+ghost use Rattle.order.specs.code.Sums.{Codes, Charted};
 use crate::chains::columns_of;
 use crate::chains::starts_of;
 use crate::codes::codes_of;

@@ -1,9 +1,11 @@
 // The order of the nodes: module 4 of document 01, pair weights, and module 5, chains.
 ghost use mathlib.Core.Path.{_≡_};
-ghost use Rattle.graph.specs.Tables.{Linked, graphOf};
+ghost use mathlib.Core.Bool.{false};
+ghost use lib.ListN.{replicate};
+ghost use Rattle.graph.specs.code.Tables.{Linked, graphOf};
 ghost use Rattle.graph.specs.Shape.{shapeOf};
 ghost use Rattle.order.specs.Chains.{columns};
-ghost use Rattle.order.specs.Ordered.{ready, refusal, ordered, outcomeOf, IsOrder, linkedOf, columnsIn};
+ghost use Rattle.order.specs.Ordered.{ready, refusal, ordered, outcomeOf, IsOrder, linkedOf, IsColumns};
 use chart::Answer;
 use columns::first_of;
 use graph::Ends;
@@ -89,15 +91,36 @@ fn linked(e: Ends, n: usize) -> bool
     true
 }
 
-// Each node's first column, from the sources and sinks of n nodes; 0 past the last node, and all of them 0 where the ends are not linked.
-pub fn order_of(sources: Ends, sinks: Ends, n: usize) -> [u8; 48]
-    ensures { λ r. ⌜ r ≡ columnsIn n sources sinks ⌝ }
+// Whether the ends are linked, and each node's first column: 0 past the last node, and all of them 0 where the ends are not linked.
+pub struct ColumnsAnswer {
+    pub linked: bool,
+    pub columns: [u8; 48],
+}
+
+// Ends that are not linked.
+fn not_linked() -> ColumnsAnswer
+    ensures { λ r. ⌜ r ≡ record { linked = false; columns = replicate 48 0 } ⌝ }
+{
+    let none = [0u8; 48];
+    ColumnsAnswer {
+        linked: false,
+        columns: none,
+    }
+}
+
+// Each node's first column, from the sources and sinks of n nodes, which any caller may have made.
+pub fn order_of(sources: Ends, sinks: Ends, n: usize) -> ColumnsAnswer
+    ensures { λ r. ⌜ IsColumns n sources sinks r ⌝ }
 {
     if !linked(sources, n) {
-        return [0; 48];
+        return not_linked();
     }
     if !linked(sinks, n) {
-        return [0; 48];
+        return not_linked();
     }
-    first_of(sources, sinks, n)
+    let columns = first_of(sources, sinks, n);
+    ColumnsAnswer {
+        linked: true,
+        columns: columns,
+    }
 }

@@ -1,10 +1,8 @@
 // Pair weights: how often one node stands against another, and two rounds in which pairs add to pairs.
 ghost use mathlib.Core.Path.{_≡_};
 ghost use Prim.Native.Nat.{ℕ, _*_, _<_, _≤_};
-ghost use mathlib.Core.Bool.{_||_};
-ghost use lib.Dec.{ltb};
 ghost use lib.ListN.{getD, replicate};
-ghost use Rattle.order.specs.Sums.{countOf, tallied, Over, Row, Rows, OverFits, RowFits, RoundFits, Coded, Charted, Weighed};
+ghost use Rattle.order.specs.code.Sums.{countOf, tallied, takes, Over, Row, Rows, OverFits, RowFits, RoundFits, Coded, Charted, Weighed};
 use crate::sums::pair_at;
 use crate::sums::row_at;
 
@@ -42,7 +40,7 @@ fn tally(codes: &[u16; 352], count: usize, sums: &mut [u32; 1128])
 
 // Whether the pair with the sums x takes part in a round in which missing pairs are made, or not.
 fn takes_part(make: bool, x: u32) -> bool
-    ensures { λ r. ⌜ r ≡ make || ltb 0 x ⌝ }
+    ensures { λ r. ⌜ r ≡ takes make x ⌝ }
 {
     if 0 < x {
         return true;
@@ -88,15 +86,15 @@ fn round_row(sums: &mut [u32; 1128], a: u32, n: u32, make: bool)
     }
 }
 
-// A round, in place: the nodes rise, and each row reads only rows that the round has not changed yet.
+// A round, in place: the rows rise, and each reads only rows that the round has not changed yet.
 fn round(sums: &mut [u32; 1128], n: u32, make: bool)
     requires { ⌜ RoundFits make n (now sums) ⌝ }
     ensures { λ _. ⌜ Rows make n n (now (sums .entry)) (now (sums .exit)) ⌝ }
 {
-    let mut a = 0u32;
-    while a < n {
-        round_row(sums, a, n, make);
-        a += 1;
+    let mut left = n;
+    while 0 < left {
+        round_row(sums, n - left, n, make);
+        left -= 1;
     }
 }
 

@@ -17,7 +17,7 @@ use Rattle.path.specs.Drawn.{segmentOf}
 use Rattle.path.specs.Text.{textOf}
 use Rattle.path.specs.Writer.{put}
 use Rattle.path.specs.Segments.{drawnOf}
-use Rattle.path.specs.Strokes.{doubledOf}
+use Rattle.path.specs.code.Strokes.{doubledOf}
 use Rattle.path.specs.Answers.{sheetAnswer, givenOf, writtenOf, leftOf}
 use Rattle.path.proofs.Puts.{refuses, does}
 

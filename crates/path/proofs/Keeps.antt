@@ -15,7 +15,7 @@ use Rattle.path.specs.declared.reader.Stand.{Stand}
 use Rattle.path.specs.declared.pass.Kept.{Kept}
 use Rattle.path.specs.Number.{limit, limitHalves}
 use Rattle.path.specs.Reader.{isLetter, isDigit, onSpace, onLetter, actOf, grown, moved, gained, Part}
-use Rattle.path.specs.Pass.{sixOf, keptOf, begins}
+use Rattle.path.specs.code.Pass.{sixOf, keptOf, begins}
 use Rattle.path.proofs.Readings.{choose, digit-small, part, Held, held, halted, begin, afterSegment, afterLetter, afterSpace, inNumber, afterPoint, afterHalf}
 
 -- the part with k parts before it

@@ -19,7 +19,7 @@ use Rattle.grid.proofs.LabelPlaces.{Lies, labelled-lies}
 use Rattle.path.specs.declared.label.Span.{Span}
 use denote.Ref.{RefT}
 use Rattle.path.specs.declared.LabelSpan.{LabelSpan}
-use Rattle.path.specs.Label.{Place, chart, table, partAt, Within, IsAt, standIn, standInsTo, standIns, standInSpan, tabled, answerIn, placeIn, labelAnswerOf, labelPartOf, IsLabelPart, spanIn, labelSpanOf, spanPlace, IsLabelSpan}
+use Rattle.path.specs.Label.{Place, chart, table, partAt, Within, IsAt, standIn, standInsTo, standIns, standInSpan, tabled, answerIn, placeIn, labelAnswerOf, labelPartOf, IsLabelPart, spanIn, labelSpanOf, IsLabelSpan}
 use Rattle.path.proofs.Labels.{stand-ins-long, stand-in-low, stand-in-high}
 
 -- ---- the table
@@ -106,7 +106,7 @@ module _ (s t : List ℕ) (x y k i : ℕ) (r : LabelOutcome) (e : r ≡ labelOut
       one ∙ sym (part-is ∙ three)
 
   -- ---- the same part as a span
-  span-is : labelSpanOf t (labelled s x y k i) ≡ spanIn (ready (r .place))
+  span-is : labelSpanOf t (labelled s x y k i) ≡ spanIn Ready (placeIn (ready (r .place)))
   span-is = rw (found .0, found .1)
 
   pub span-fits : r .place .fixed ≡ true → (p : Span) → p ≡ standInSpan (r .place .number) → (p .at ≤ p .end) × (p .end ≤ 86)
@@ -121,7 +121,7 @@ module _ (s t : List ℕ) (x y k i : ℕ) (r : LabelOutcome) (e : r ≡ labelOut
   fixed-span f p h = rw (span-is, f, h)
 
   pub given-span : r .place .fixed ≡ false → record { answer = Ready; fixed = false; at = r .place .at; len = r .place .len } ≡ labelSpanOf t (labelled s x y k i)
-  given-span f = rw (span-is, f)
+  given-span f = let n : r .place .at + r .place .len - r .place .at ≡ r .place .len = omega arith in rw (span-is, f, n)
 
 -- refused: the empty part at the chart's start
 pub refused-part : (v : Labelled) (r : LabelOutcome) (a b m n : ℕ) → r ≡ labelOutcomeOf v → r .answer ≡ Refused a b → partAt false 0 0 m n ≡ placeIn v
@@ -131,36 +131,13 @@ refused-part (ready p) r a b m n e f =
 refused-part (refusal i j) r a b m n e f = rw (le-leb 0 m (omega arith))
 
 pub refused-span : (v : Labelled) (r : LabelOutcome) (a b : ℕ) → r ≡ labelOutcomeOf v → r .answer ≡ Refused a b →
-    record { answer = Refused a b; fixed = false; at = 0; len = 0 } ≡ spanIn v
+    record { answer = Refused a b; fixed = false; at = 0; len = 0 } ≡ spanIn (answerIn v .answer) (placeIn v)
 refused-span (ready p) r a b e f =
     let g : r .answer ≡ Ready = ap (λ (u : LabelOutcome). u .answer) e in
     let z : _≡_ {A = ℕ} 0 1 = cc in absurd (omega arith)
 refused-span (refusal i j) r a b e f =
     let g : Refused a b ≡ Refused i j = sym f ∙ ap (λ (u : LabelOutcome). u .answer) e in
     rw g
-
--- the place that a label's span names is the one of its part
-span-place : (p : LabelPlace) (b : Bool) → p .fixed ≡ b → spanPlace (spanIn (ready p)) ≡ placeIn (ready p)
-span-place p true e =
-    let q : ℕ = p .number in
-    let f : length (standInsTo q) + (length (standInsTo q) + length (standIn q) - length (standInsTo q)) ≡ length (standInsTo q) + length (standIn q) = omega arith in
-    rw (e, f)
-span-place p false e = rw e
-
-span-part-in : (v : Labelled) → spanPlace (spanIn v) ≡ placeIn v
-span-part-in (ready p) = span-place p (p .fixed) refl
-span-part-in (refusal i j) = refl
-
-pub span-part : (t : List ℕ) (l : Labelled) → spanPlace (labelSpanOf t l) ≡ labelPartOf t l
-span-part t l = span-part-in (tabled t l)
-
--- and the answers of the two calls are the same
-span-answer-in : (v : Labelled) → spanIn v .answer ≡ answerIn v .answer
-span-answer-in (ready p) = refl
-span-answer-in (refusal i j) = refl
-
-pub span-answer : (t : List ℕ) (l : Labelled) → labelSpanOf t l .answer ≡ labelAnswerOf t l .answer
-span-answer t l = span-answer-in (tabled t l)
 
 -- ---- the part lies within the chart or the table
 place-within : (s t : List ℕ) (p : LabelPlace) → Lies s p → same t standIns ≡ true → (b : Bool) → p .fixed ≡ b → Within (length s) (length t) (placeIn (ready p))
@@ -184,10 +161,4 @@ pub is-label-part : (s t : RefT (List ℕ)) (x y k i : ℕ) (r : RefT (List ℕ)
 is-label-part s t x y k i r a = record { is = a; within = part-within (s .now) (t .now) x y k i }
 
 pub is-label-span : (s t : List ℕ) (x y k i : ℕ) (r : LabelSpan) → r ≡ labelSpanOf t (labelled s x y k i) → IsLabelSpan s t (labelled s x y k i) r
-is-label-span s t x y k i r e =
-    let f : spanPlace r ≡ labelPartOf t (labelled s x y k i) = ap (λ (u : LabelSpan). spanPlace u) e ∙ span-part t (labelled s x y k i) in
-    record {
-      answer = ap (λ (u : LabelSpan). u .answer) e ∙ span-answer t (labelled s x y k i);
-      place = f;
-      within = subst (Within (length s) (length t)) (sym f) (part-within s t x y k i);
-    }
+is-label-span s t x y k i r e = record { whole = e; within = part-within s t x y k i }

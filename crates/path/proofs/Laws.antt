@@ -23,7 +23,7 @@ use Rattle.path.specs.Segments.{drawnOf}
 use Rattle.path.specs.Profile.{IsProfile, Continues, Refusal, Large, textBefore, placeOf}
 use Rattle.path.specs.Writer.{put}
 use Rattle.path.specs.Reader.{Answer, step, unread, run, drawnAll, ended, isStopped, given, segments, refused, read}
-use Rattle.path.specs.Answers.{sheetAnswer, givenOf, writtenOf, leftOf, numbers, givenNumbers, writtenNumbers}
+use Rattle.path.specs.Answers.{sheetAnswer, countOf, givenOf, writtenOf, leftOf, givenNumbers, countNumbers, writtenNumbers, refusalOf, segmentRefusal, textRefusal}
 use Rattle.path.specs.Svg.{Command, SvgPath}
 use Rattle.path.specs.Meaning.{MeanAll}
 use Rattle.path.proofs.Exact.{exact}
@@ -231,22 +231,25 @@ pub refusing-19 : (s : List ℕ) (ds : List Drawn) → textOf ds ≡ s → Small
 refusing-19 s ds e m n = ap read (sym e) ∙ other-19 ds m n
 
 -- ---- document 01's numbers of the answers, in the order that they are asked
--- a segment of a sheet: 14, then 15
-pub segment-numbers : (s : SheetRecord) (k : ℕ) → givenNumbers (givenOf k (sheetAnswer s)) ≡ cond (soundOf s) (cond (ltb k (length (drawnOf s))) (numbers 0 0) (numbers 15 0)) (numbers 14 0)
-segment-numbers s k = go (soundOf s) (ltb k (length (drawnOf s))) refl
-  where
-    go : (t u : Bool) → ltb k (length (drawnOf s)) ≡ u → givenNumbers (givenOf k (cond t (segments (drawnOf s)) (refused 14 0))) ≡ cond t (cond u (numbers 0 0) (numbers 15 0)) (numbers 14 0)
-    go true true e = rw e
-    go true false e = rw e
-    go false u e = refl
+pub count-numbers : (a : Answer) → countNumbers (countOf a) ≡ refusalOf a
+count-numbers (segments ds) = refl
+count-numbers (refused n p) = refl
 
--- the text of a sheet: 14, then 16 with the length needed
-pub sheet-numbers : (s : SheetRecord) (buf : List ℕ) → writtenNumbers (writtenOf buf (sheetAnswer s))
-    ≡ cond (soundOf s) (cond (leb (0 + length (textOf (drawnOf s))) (length buf)) (numbers 0 0) (numbers 16 (length (textOf (drawnOf s))))) (numbers 14 0)
-sheet-numbers s buf = go (soundOf s) (leb (0 + length (textOf (drawnOf s))) (length buf)) refl
+pub segment-numbers : (k : ℕ) (a : Answer) → givenNumbers (givenOf k a) ≡ segmentRefusal k a
+segment-numbers k (segments ds) = go (ltb k (length ds)) refl
   where
-    go : (t u : Bool) → leb (0 + length (textOf (drawnOf s))) (length buf) ≡ u
-        → writtenNumbers (writtenOf buf (cond t (segments (drawnOf s)) (refused 14 0))) ≡ cond t (cond u (numbers 0 0) (numbers 16 (length (textOf (drawnOf s))))) (numbers 14 0)
-    go true true e = rw e
-    go true false e = rw e
-    go false u e = refl
+    go : (u : Bool) → ltb k (length ds) ≡ u → givenNumbers (givenOf k (segments ds)) ≡ segmentRefusal k (segments ds)
+    go true e = rw e
+    go false e = rw e
+segment-numbers k (refused n p) = refl
+
+pub text-numbers : (buf : List ℕ) (a : Answer) → writtenNumbers (writtenOf buf a) ≡ textRefusal buf a
+text-numbers buf (segments ds) = go (leb (length (textOf ds)) (length buf)) refl
+  where
+    z : 0 + length (textOf ds) ≡ length (textOf ds)
+    z = omega arith
+
+    go : (u : Bool) → leb (length (textOf ds)) (length buf) ≡ u → writtenNumbers (writtenOf buf (segments ds)) ≡ textRefusal buf (segments ds)
+    go true e = rw (z, e)
+    go false e = rw (z, e)
+text-numbers buf (refused n p) = refl

@@ -10,6 +10,8 @@ pub mod Readings
 pub mod Writings
 pub mod Derives
 pub mod Unique
+pub mod Machine
+pub mod SvgCases
 pub mod Passes
 pub mod Keeps
 pub mod Wholes
@@ -23,7 +25,6 @@ pub mod Accepts
 pub mod Fronts
 pub mod Larges
 pub mod Laws
-pub mod OneMeaning
 pub mod Labels
 pub mod LabelCalls
 pub mod Promises

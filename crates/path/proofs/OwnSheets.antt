@@ -1,5 +1,5 @@
 -- A chart's own sheet: a box, a segment and the text of it are refused by 15 and 16 alone, never by 14. Assumes nothing.
-use mathlib.Core.Path.{_≡_, sym, subst}
+use mathlib.Core.Path.{_≡_, sym, subst, _∙_}
 use mathlib.Core.Bool.{true}
 use mathlib.Core.List.{List, map}
 use Prim.Native.Nat.{ℕ, _+_, _≤_, _<_}
@@ -17,12 +17,14 @@ use Rattle.grid.specs.Sheeted.{ready, sheeted}
 use Rattle.grid.specs.LaidOut.{IsSheet}
 use Rattle.grid.proofs.SoundLaws.{sheet-sound, Own, own}
 use Rattle.path.specs.declared.Given.the-variants.{Drawn as Given·Drawn, Refused as Given·Refused}
+use Rattle.path.specs.declared.Written.{Written}
 use Rattle.path.specs.declared.Written.the-variants.{Done, Refused}
 use Rattle.path.specs.Drawn.{segmentOf}
 use Rattle.path.specs.Text.{textOf}
 use Rattle.path.specs.Segments.{drawnOf}
-use Rattle.path.specs.Strokes.{doubledOf, sizeOf, strokeAt}
+use Rattle.path.specs.code.Strokes.{doubledOf, sizeOf, strokeAt}
 use Rattle.path.specs.Answers.{sheetAnswer, givenOf, writtenOf}
+use Rattle.path.specs.Promises.{IsWritten}
 use Rattle.path.proofs.Sheets.{sound-is, drawn-long, by-number}
 
 -- what is answered of a sheet: all that it holds, and else 15 and 16
@@ -46,6 +48,10 @@ sound-serves r b c o =
       text = λ buf h. let z : 0 + length (textOf (drawnOf r)) ≡ length (textOf (drawnOf r)) = omega arith in rw (o, z, le-leb (length (textOf (drawnOf r))) (length buf) h);
       no-text = λ buf h. let z : 0 + length (textOf (drawnOf r)) ≡ length (textOf (drawnOf r)) = omega arith in rw (o, z, lt-leb (length (textOf (drawnOf r))) (length buf) h);
     }
+
+-- so `write_sheet` refuses no sound sheet whose text fits
+pub sound-written : {r : SheetRecord} {buf out : List ℕ} {w : Written} → soundOf r ≡ true → length (textOf (drawnOf r)) ≤ length buf → IsWritten r buf w out → w ≡ Done (length (textOf (drawnOf r)))
+sound-written {r} {buf} o h i = let z : 0 + length (textOf (drawnOf r)) ≤ length buf = omega arith in i .whole ∙ rw (o, le-leb (0 + length (textOf (drawnOf r))) (length buf) z)
 
 -- ---- of every chart, at every origin
 pub sheet-serves : (s : List ℕ) (x y : ℕ) (sh : Sheet) → sheeted s x y ≡ ready sh → Serves (recordOf sh x y)

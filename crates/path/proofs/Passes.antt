@@ -16,7 +16,7 @@ use Rattle.path.specs.declared.reader.Stand.{Stand}
 use Rattle.path.specs.declared.pass.Pass.{Pass}
 use Rattle.path.specs.Number.{limit}
 use Rattle.path.specs.Reader.{isLetter, isDigit, onSpace, onLetter, actOf, act, grown, moved}
-use Rattle.path.specs.Pass.{begins, passed, passTo}
+use Rattle.path.specs.code.Pass.{begins, passed, passTo}
 use Rattle.path.proofs.Readings.{choose, both, digit-small}
 
 pub pass-next : (k : ℕ) (s : List ℕ) (i : ℕ) → passTo k s (i + 1) ≡ passed k (act (passTo k s i .stand) (getD s i 0)) i (passTo k s i)

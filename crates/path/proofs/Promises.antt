@@ -22,12 +22,12 @@ use Rattle.path.specs.declared.Given.the-variants.{Drawn as Given·Drawn
 use Rattle.path.specs.declared.Written.{Written}
 use Rattle.path.specs.declared.Written.the-variants.{Done, Refused}
 use Rattle.path.specs.Text.{numbersOf, textOf, Smalls, Led}
-use Rattle.path.specs.Drawn.{segmentOf, Exactly}
+use Rattle.path.specs.Drawn.{segmentOf, Exactly, ExactAll}
 use Rattle.path.specs.Segments.{drawnOf}
 use Rattle.path.specs.Profile.{Large, placeOf}
 use Rattle.path.specs.Reader.{Answer, segments, refused, run, drawnAll, ended, isStopped, given, read}
 use Rattle.path.specs.Answers.{sheetAnswer, countOf, givenOf, writtenOf, leftOf, givenNumbers, countNumbers, writtenNumbers}
-use Rattle.path.specs.Promises.{Draws, SheetText, IsWritten, IsSegment, InProfile, Judged, accepted, stops, large, unled, IsReading, IsCount, IsGiven, IsRewritten}
+use Rattle.path.specs.Promises.{Draws, SheetText, IsWritten, IsSegment, InProfile, Judged, accepted, stops, large, unled, IsReading, IsCount, IsRewritten}
 use Rattle.path.proofs.Derives.{derives, derives-back}
 use Rattle.path.proofs.Unique.{one-reading}
 use Rattle.path.proofs.Readings.{read-text}
@@ -100,20 +100,16 @@ module _ (s : List ℕ) where
   judged-read a (large {ds = ds} e l) = sym (laws.refusing-18 s ds e l)
   judged-read a (unled {ds = ds} e m n) = sym (laws.refusing-19 s ds e m n)
 
-  pub reading : IsReading s (read s)
+  pub reading : IsReading s
   reading =
       record {
         judged = read-judged;
         only = judged-read;
         draws = λ ds e. subst (λ (t : List ℕ). Draws t ds) (read-text s ds e) (draws-text ds (read-led s ds e));
-        exact = λ ds e. laws.text-exact s ds e;
       }
 
-  pub is-count : (r : Counted) → r ≡ countOf (read s) → IsCount s r
-  is-count r e = record { answer = read s; reading = reading; whole = e; refused = λ n p i. ap countNumbers (e ∙ ap countOf i) }
-
-  pub is-given : (k : ℕ) (r : Given) → r ≡ givenOf k (read s) → IsGiven s k r
-  is-given k r e = record { answer = read s; reading = reading; whole = e; refused = λ n p i. ap givenNumbers (e ∙ ap (givenOf k) i) }
+  pub is-count : (r : Counted) → r ≡ countOf (read s) → IsCount s r × IsReading s
+  is-count r e = (record { whole = e; refused = ap countNumbers e ∙ laws.count-numbers (read s) }, reading)
 
   same-bytes : (buf : List ℕ) (n : ℕ) → writtenOf buf (read s) ≡ Done n → (n ≡ length s) × (leftOf buf (read s) ≡ s ++ drop n buf)
   same-bytes buf n e = go (read s) refl
@@ -126,22 +122,22 @@ module _ (s : List ℕ) where
           (m, laws.rewritten s ds i buf (omega (arith, f .0)) ∙ ap (λ (k : ℕ). s ++ drop k buf) (sym m))
       go (refused a b) i = not-done a b n (ap (λ (z : Answer). writtenOf buf z) (sym i) ∙ e)
 
-  pub is-rewritten : (buf : List ℕ) (r : Written) (out : List ℕ) → (r ≡ writtenOf buf (read s)) × (out ≡ leftOf buf (read s)) → IsRewritten s buf r out
-  is-rewritten buf r out p =
-      record {
-        answer = read s;
-        reading = reading;
-        whole = p .0;
-        bytes = p .1;
-        refused = λ n q i. ap writtenNumbers (p .0 ∙ ap (writtenOf buf) i);
-        same = λ n e. let b = same-bytes buf n (sym (p .0) ∙ e) in (b .0, p .1 ∙ b .1);
-      }
+  pub is-rewritten : (buf : List ℕ) (r : Written) (out : List ℕ) → (r ≡ writtenOf buf (read s)) × (out ≡ leftOf buf (read s)) → IsRewritten s buf r out × IsReading s
+  is-rewritten buf r out p = (
+    record {
+      whole = p .0;
+      bytes = p .1;
+      refused = ap writtenNumbers (p .0) ∙ laws.text-numbers buf (read s);
+      same = λ n e. let b = same-bytes buf n (sym (p .0) ∙ e) in (b .0, p .1 ∙ b .1);
+    },
+    reading,
+  )
 
 -- ---- the text of a sheet
 sheet-text : (s : SheetRecord) → soundOf s ≡ true → SheetText s (textOf (drawnOf s))
 sheet-text s e =
     let a : sheetAnswer s ≡ segments (drawnOf s) = rw e in
-    record { draws = draws-text (drawnOf s) (drawn-led s); reads = subst (IsReading (textOf (drawnOf s))) (laws.write-read s e ∙ sym a) (reading (textOf (drawnOf s))) }
+    record { draws = draws-text (drawnOf s) (drawn-led s); reads = laws.write-read s e ∙ sym a }
 
 written-sheet : (s : SheetRecord) (buf : List ℕ) (n : ℕ) → writtenOf buf (sheetAnswer s) ≡ Done n → SheetText s (take n (leftOf buf (sheetAnswer s)))
 written-sheet s buf n e = go (soundOf s) refl
@@ -160,11 +156,11 @@ is-written s buf r out p =
     record {
       whole = p .0;
       bytes = p .1;
-      refused = ap writtenNumbers (p .0) ∙ laws.sheet-numbers s buf;
+      refused = ap writtenNumbers (p .0) ∙ laws.text-numbers buf (sheetAnswer s);
       text = λ n e. subst (λ (z : List ℕ). SheetText s (take n z)) (sym (p .1)) (written-sheet s buf n (sym (p .0) ∙ e));
     }
 
--- ---- a segment of a sheet
+-- ---- a segment
 drawn-is : (k : ℕ) (ds : List Drawn) (g : Segment) → givenOf k (segments ds) ≡ Given·Drawn g → (k < length ds) × (g ≡ segmentOf (getD ds k (Move 0 0)))
 drawn-is k ds g e = go (ltb k (length ds)) refl e
   where
@@ -173,24 +169,22 @@ drawn-is k ds g e = go (ltb k (length ds)) refl e
     go true i j = let m : segmentOf (getD ds k (Move 0 0)) ≡ g = cc in (ltb-true k (length ds) i, sym m)
     go false i j = let z : _≡_ {A = ℕ} 0 1 = cc in absurd (omega arith)
 
-segment-is : (s : SheetRecord) (k : ℕ) (g : Segment) → givenOf k (sheetAnswer s) ≡ Given·Drawn g → (g ≡ segmentOf (getD (drawnOf s) k (Move 0 0))) × All Exactly (numbersOf (getD (drawnOf s) k (Move 0 0)))
-segment-is s k g e = go (soundOf s) refl
-  where
-    go : (b : Bool) → soundOf s ≡ b → (g ≡ segmentOf (getD (drawnOf s) k (Move 0 0))) × All Exactly (numbersOf (getD (drawnOf s) k (Move 0 0)))
-    go true i =
-        let a : sheetAnswer s ≡ segments (drawnOf s) = rw i in
-        let d = drawn-is k (drawnOf s) g (ap (λ (z : Answer). givenOf k z) (sym a) ∙ e) in
-        (d .1, all-in (λ (u : Drawn). All Exactly (numbersOf u)) (drawnOf s) k (Move 0 0) (d .0) (laws.sheet-exact s i))
-    go false i =
-        let a : sheetAnswer s ≡ refused 14 0 = rw i in
-        let f : Given·Refused 14 0 ≡ Given·Drawn g = ap (λ (z : Answer). givenOf k z) (sym a) ∙ e in
-        let z : _≡_ {A = ℕ} 0 1 = cc in absurd (omega arith)
-
-pub is-segment : (s : SheetRecord) (k : ℕ) (r : Given) → r ≡ givenOf k (sheetAnswer s) → IsSegment s k r
-is-segment s k r e =
+is-segment : (k : ℕ) (a : Answer) → ((ds : List Drawn) → a ≡ segments ds → ExactAll ds) → (r : Given) → r ≡ givenOf k a → IsSegment k a r
+is-segment k a h r e =
     record {
       whole = e;
-      refused = ap givenNumbers e ∙ laws.segment-numbers s k;
-      is = λ g q. segment-is s k g (sym e ∙ q) .0;
-      exact = λ g q. segment-is s k g (sym e ∙ q) .1;
+      refused = ap givenNumbers e ∙ laws.segment-numbers k a;
+      exact = λ ds g i q.
+          let d = drawn-is k ds g (ap (λ (z : Answer). givenOf k z) (sym i) ∙ sym e ∙ q) in
+          (d .1, all-in (λ (u : Drawn). All Exactly (numbersOf u)) ds k (Move 0 0) (d .0) (h ds i));
     }
+
+pub is-sheet-segment : (s : SheetRecord) (k : ℕ) (r : Given) → r ≡ givenOf k (sheetAnswer s) → IsSegment k (sheetAnswer s) r
+is-sheet-segment s k r e = is-segment k (sheetAnswer s) (λ ds i. exact-by ds (soundOf s) refl i) r e
+  where
+    exact-by : (ds : List Drawn) (b : Bool) → soundOf s ≡ b → sheetAnswer s ≡ segments ds → ExactAll ds
+    exact-by ds true o i = let d : drawnOf s ≡ ds = cc in subst ExactAll d (laws.sheet-exact s o)
+    exact-by ds false o i = let z : _≡_ {A = ℕ} 0 1 = cc in absurd (omega arith)
+
+pub is-text-segment : (s : List ℕ) (k : ℕ) (r : Given) → r ≡ givenOf k (read s) → IsSegment k (read s) r × IsReading s
+is-text-segment s k r e = (is-segment k (read s) (λ ds i. laws.text-exact s ds i) r e, reading s)

@@ -25,7 +25,7 @@ use Rattle.path.specs.Drawn.{InRange}
 use Rattle.path.specs.Text as text
 use Rattle.path.specs.Text.{numbersOf, numbersText, segmentText, restText, textOf, Small, Smalls, Led}
 use Rattle.path.specs.Segments.{boxDrawn, curveDrawn, joined, drawnOf}
-use Rattle.path.specs.Strokes.{doubledOf, InReach, IsStroke, boxStroke, curveStroke, sizeOf, strokeAt, strokeOf, nextText}
+use Rattle.path.specs.code.Strokes.{doubledOf, InReach, IsStroke, boxStroke, curveStroke, sizeOf, strokeAt, strokeOf, nextText}
 use Rattle.path.proofs.Numbers.{number-bound}
 use Rattle.path.proofs.Backs.{rest-append, text-next}
 use Rattle.path.proofs.Readings.{both}

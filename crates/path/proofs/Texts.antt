@@ -17,7 +17,7 @@ use Rattle.path.specs.declared.Written.the-variants.{Done, Refused as Wr
 use Rattle.path.specs.Drawn.{InRange, segmentOf}
 use Rattle.path.specs.Text.{textOf}
 use Rattle.path.specs.Reader.{run, verdictOf, given, drawnAll, segments, refused, read}
-use Rattle.path.specs.Pass.{passTo, drawnSix}
+use Rattle.path.specs.code.Pass.{passTo, drawnSix}
 use Rattle.path.specs.Writer.{put}
 use Rattle.path.specs.Answers.{countOf, givenOf, writtenOf, leftOf}
 use Rattle.path.proofs.Readings.{read-text}

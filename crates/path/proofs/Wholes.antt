@@ -17,7 +17,7 @@ use Rattle.path.specs.declared.drawn.Drawn.the-variants.{Move, Line, Cub
 use Rattle.path.specs.Number.{limitHalves}
 use Rattle.path.specs.Drawn.{InRange}
 use Rattle.path.specs.Reader.{Part, Reading, step, runFrom, unread, run, isStopped, ended, verdictOf, given, drawnFrom, partOf, drawnAll, read, act, moved, gained}
-use Rattle.path.specs.Pass.{passTo, passed, begins, keptOf, drawnSix}
+use Rattle.path.specs.code.Pass.{passTo, passed, begins, keptOf, drawnSix}
 use Rattle.path.proofs.Readings.{Holds, read-held}
 use Rattle.path.proofs.Writings.{run-append}
 use Rattle.path.proofs.Keeps.{nth, AllSmall, SmallParts, Keeps, step-keeps}

@@ -3,7 +3,7 @@
 use mathlib.Core.Bool.{cond}
 use mathlib.Core.List.{List}
 use Prim.Native.Nat.{ℕ}
-use lib.Dec.{ltb}
+use lib.Dec.{leb, ltb}
 use lib.ListN.{length, getD}
 use Rattle.path.specs.declared.drawn.Drawn.the-variants.{Move}
 use Rattle.path.specs.declared.Counted.{Counted}
@@ -14,7 +14,7 @@ use Rattle.path.specs.declared.Written.{Written}
 use Rattle.path.specs.declared.Written.the-variants.{Done, Refused}
 use Rattle.path.specs.Drawn.{segmentOf}
 use Rattle.path.specs.Text.{textOf}
-use Rattle.chart.specs.Read.{Numbers}
+use Rattle.chart.specs.Read.{Numbers, numbers}
 use Rattle.grid.specs.declared.SheetRecord.{SheetRecord}
 use Rattle.grid.specs.Record.{soundOf}
 use Rattle.path.specs.Segments.{drawnOf}
@@ -44,9 +44,6 @@ leftOf buf (segments ds) = placed buf 0 (textOf ds)
 leftOf buf (refused n p) = buf
 
 -- ---- document 01's two numbers of each case; 0 0 where nothing is refused
-abbrev pub numbers : ℕ → ℕ → Numbers
-numbers a b = record { first = a; second = b }
-
 abbrev pub givenNumbers : Given → Numbers
 givenNumbers (Given·Drawn g) = numbers 0 0
 givenNumbers (Given·Refused n p) = numbers n p
@@ -58,3 +55,16 @@ countNumbers (Count·Refused n p) = numbers n p
 abbrev pub writtenNumbers : Written → Numbers
 writtenNumbers (Done n) = numbers 0 0
 writtenNumbers (Refused n p) = numbers n p
+
+-- the same by what a sheet or a path text gives: its refusal first; then 15 of a segment number, 16 of a buffer with the length needed
+abbrev pub refusalOf : Answer → Numbers
+refusalOf (segments ds) = numbers 0 0
+refusalOf (refused n p) = numbers n p
+
+abbrev pub segmentRefusal : ℕ → Answer → Numbers
+segmentRefusal k (segments ds) = cond (ltb k (length ds)) (numbers 0 0) (numbers 15 0)
+segmentRefusal k (refused n p) = numbers n p
+
+abbrev pub textRefusal : List ℕ → Answer → Numbers
+textRefusal buf (segments ds) = cond (leb (length (textOf ds)) (length buf)) (numbers 0 0) (numbers 16 (length (textOf ds)))
+textRefusal buf (refused n p) = numbers n p

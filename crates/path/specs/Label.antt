@@ -2,12 +2,13 @@
 -- Assumes nothing.
 use Prim.Native.Nat.{ℕ, zero, suc, _+_, _-_, _≤_}
 use mathlib.Core.Path.{_≡_}
-use mathlib.Core.Bool.{Bool, false, cond, _&&_}
+use mathlib.Core.Bool.{Bool, true, false, cond, _&&_}
 use mathlib.Core.List.{List, [], _∷_, _++_}
 use lib.Dec.{leb}
 use lib.ListN.{length, take, drop}
 use denote.Ref.{RefT}
 use Rattle.laws.specs.Bytes.{same}
+use Rattle.chart.specs.declared.Answer.{Answer}
 use Rattle.chart.specs.declared.Answer.the-variants.{Ready, Refused}
 use Rattle.grid.specs.Labelled.{Labelled, ready, refusal}
 use Rattle.path.specs.declared.label.Span.{Span}
@@ -82,27 +83,16 @@ pub record IsLabelPart (s t : RefT (List ℕ)) (l : Labelled) (r : RefT (List �
   pub is : IsAt (labelPartOf (t .now) l) s t r
   pub within : Within (length (s .now)) (length (t .now)) (labelPartOf (t .now) l)
 
--- the same part in numbers, for a caller that can't be handed a part: 'a part of the chart or of the stand-in table', where it begins there and how long it is;
--- refused, 'the empty one at the chart's start'
-abbrev pub spanIn : Labelled → LabelSpan
-spanIn (ready p) =
-    record {
-      answer = Ready;
-      fixed = p .fixed;
-      at = cond (p .fixed) (standInSpan (p .number) .at) (p .at);
-      len = cond (p .fixed) (standInSpan (p .number) .end - standInSpan (p .number) .at) (p .len);
-    }
-spanIn (refusal number second) = record { answer = Refused number second; fixed = false; at = 0; len = 0 }
+-- the same part in numbers, for a caller that can't be handed a part: where it begins in the chart or in the table, and how long it is
+abbrev pub spanIn : Answer → Place → LabelSpan
+spanIn a (chart b e) = record { answer = a; fixed = false; at = b; len = e - b }
+spanIn a (table b e) = record { answer = a; fixed = true; at = b; len = e - b }
 
+-- the answer of `label_place`, and the part of `label_part`
 abbrev pub labelSpanOf : List ℕ → Labelled → LabelSpan
-labelSpanOf t l = spanIn (tabled t l)
+labelSpanOf t l = spanIn (labelAnswerOf t l .answer) (labelPartOf t l)
 
--- the place that a span names; of `labelSpanOf` it is `labelPartOf` (`span-part` in proofs/LabelCalls.antt)
-abbrev pub spanPlace : LabelSpan → Place
-spanPlace r = cond (r .fixed) (table (r .at) (r .at + r .len)) (chart (r .at) (r .at + r .len))
-
--- `label_span`: the answer of `label_place`, and the part of `label_part` as a place, which lies within the chart s or the table t
+-- `label_span`: that part, which lies within the chart s or the table t
 pub record IsLabelSpan (s t : List ℕ) (l : Labelled) (r : LabelSpan) : Type 0 where
-  pub answer : r .answer ≡ labelAnswerOf t l .answer
-  pub place : spanPlace r ≡ labelPartOf t l
-  pub within : Within (length s) (length t) (spanPlace r)
+  pub whole : r ≡ labelSpanOf t l
+  pub within : Within (length s) (length t) (labelPartOf t l)

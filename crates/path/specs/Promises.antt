@@ -2,14 +2,11 @@
 -- document 01's words; no position is rounded.
 -- Assumes nothing.
 use mathlib.Core.Path.{_≡_}
-use mathlib.Core.Bool.{cond}
 use mathlib.Core.List.{List, _++_}
-use Prim.Native.Nat.{ℕ, _+_}
-use lib.Dec.{leb, ltb}
+use Prim.Native.Nat.{ℕ}
 use lib.ListN.{length, getD, take, drop}
 use Rattle.laws.specs.Lists.{All}
 use Rattle.grid.specs.declared.SheetRecord.{SheetRecord}
-use Rattle.grid.specs.Record.{soundOf}
 use Rattle.path.specs.declared.drawn.Drawn.{Drawn}
 use Rattle.path.specs.declared.drawn.Drawn.the-variants.{Move}
 use Rattle.path.specs.declared.Segment.{Segment}
@@ -19,11 +16,11 @@ use Rattle.path.specs.declared.Given.the-variants.{Drawn as Given·Drawn
 use Rattle.path.specs.declared.Written.{Written}
 use Rattle.path.specs.declared.Written.the-variants.{Done}
 use Rattle.path.specs.Text.{numbersOf, textOf, Smalls, Led}
-use Rattle.path.specs.Drawn.{segmentOf, Exactly, ExactAll}
+use Rattle.path.specs.Drawn.{segmentOf, Exactly}
 use Rattle.path.specs.Segments.{drawnOf}
 use Rattle.path.specs.Profile.{Refusal, Large, placeOf}
-use Rattle.path.specs.Reader.{Answer, segments, refused}
-use Rattle.path.specs.Answers.{sheetAnswer, countOf, givenOf, writtenOf, leftOf, numbers, givenNumbers, countNumbers, writtenNumbers}
+use Rattle.path.specs.Reader.{Answer, segments, refused, read}
+use Rattle.path.specs.Answers.{sheetAnswer, countOf, givenOf, writtenOf, leftOf, givenNumbers, countNumbers, writtenNumbers, refusalOf, segmentRefusal, textRefusal}
 use Rattle.path.specs.Svg.{Command, SvgPath}
 use Rattle.path.specs.Meaning.{MeanAll}
 
@@ -51,52 +48,40 @@ pub data Judged (s : List ℕ) : Answer → Type 0 where
   large : {ds : List Drawn} → textOf ds ≡ s → (l : Large ds) → Judged s (refused 18 (placeOf l))
   unled : {ds : List Drawn} → textOf ds ≡ s → Smalls ds → (Led ds → ⊥) → Judged s (refused 19 0)
 
--- a is that judgement of s, and there is no other (`read` computes it); accepted, s is SVG path data that draws the same segments, and none of their positions is rounded
-pub record IsReading (s : List ℕ) (a : Answer) : Type 0 where
-  pub judged : Judged s a
-  pub only : (b : Answer) → Judged s b → b ≡ a
-  pub draws : (ds : List Drawn) → a ≡ segments ds → Draws s ds
-  pub exact : (ds : List Drawn) → a ≡ segments ds → ExactAll ds
+-- `read` is that judgement of s, and there is no other; accepted, s is SVG path data that draws the same segments
+pub record IsReading (s : List ℕ) : Type 0 where
+  pub judged : Judged s (read s)
+  pub only : (a : Answer) → Judged s a → a ≡ read s
+  pub draws : (ds : List Drawn) → read s ≡ segments ds → Draws s ds
 
 -- `text_count`
 pub record IsCount (s : List ℕ) (r : Counted) : Type 0 where
-  pub answer : Answer
-  pub reading : IsReading s answer
-  pub whole : r ≡ countOf answer
-  pub refused : (n p : ℕ) → answer ≡ refused n p → countNumbers r ≡ numbers n p
-
--- `text_segment`
-pub record IsGiven (s : List ℕ) (k : ℕ) (r : Given) : Type 0 where
-  pub answer : Answer
-  pub reading : IsReading s answer
-  pub whole : r ≡ givenOf k answer
-  pub refused : (n p : ℕ) → answer ≡ refused n p → givenNumbers r ≡ numbers n p
+  pub whole : r ≡ countOf (read s)
+  pub refused : countNumbers r ≡ refusalOf (read s)
 
 -- `rewrite`: the answer r, and the buffer, `buf` before and `out` after; what is written is the text, byte for byte
 pub record IsRewritten (s buf : List ℕ) (r : Written) (out : List ℕ) : Type 0 where
-  pub answer : Answer
-  pub reading : IsReading s answer
-  pub whole : r ≡ writtenOf buf answer
-  pub bytes : out ≡ leftOf buf answer
-  pub refused : (n p : ℕ) → answer ≡ refused n p → writtenNumbers r ≡ numbers n p
+  pub whole : r ≡ writtenOf buf (read s)
+  pub bytes : out ≡ leftOf buf (read s)
+  pub refused : writtenNumbers r ≡ textRefusal buf (read s)
   pub same : (n : ℕ) → r ≡ Done n → (n ≡ length s) × (out ≡ s ++ drop n buf)
 
--- ---- a sheet
--- t is the text of the sheet s: it draws the sheet's segments, and our reader reads those that `sheet_segment` hands out
+-- ---- segment k of what a sheet or a path text gives: `sheet_segment`, `text_segment`
+pub record IsSegment (k : ℕ) (a : Answer) (r : Given) : Type 0 where
+  pub whole : r ≡ givenOf k a
+  pub refused : givenNumbers r ≡ segmentRefusal k a
+  -- each pen position is exactly the whole or half number of the definition, none rounded
+  pub exact : (ds : List Drawn) (g : Segment) → a ≡ segments ds → r ≡ Given·Drawn g → (g ≡ segmentOf (getD ds k (Move 0 0))) × All Exactly (numbersOf (getD ds k (Move 0 0)))
+
+-- ---- the text of a sheet
+-- t is the text of the sheet s: it draws the sheet's segments, those that `sheet_segment` hands out, and our reader reads the same
 pub record SheetText (s : SheetRecord) (t : List ℕ) : Type 0 where
   pub draws : Draws t (drawnOf s)
-  pub reads : IsReading t (sheetAnswer s)
+  pub reads : read t ≡ sheetAnswer s
 
 -- `write_sheet`: the answer r, and the buffer, `buf` before and `out` after
 pub record IsWritten (s : SheetRecord) (buf : List ℕ) (r : Written) (out : List ℕ) : Type 0 where
   pub whole : r ≡ writtenOf buf (sheetAnswer s)
   pub bytes : out ≡ leftOf buf (sheetAnswer s)
-  pub refused : writtenNumbers r ≡ cond (soundOf s) (cond (leb (0 + length (textOf (drawnOf s))) (length buf)) (numbers 0 0) (numbers 16 (length (textOf (drawnOf s))))) (numbers 14 0)
+  pub refused : writtenNumbers r ≡ textRefusal buf (sheetAnswer s)
   pub text : (n : ℕ) → r ≡ Done n → SheetText s (take n out)
-
--- `sheet_segment`: each pen position is exactly the whole or half number of the definition, none rounded
-pub record IsSegment (s : SheetRecord) (k : ℕ) (r : Given) : Type 0 where
-  pub whole : r ≡ givenOf k (sheetAnswer s)
-  pub refused : givenNumbers r ≡ cond (soundOf s) (cond (ltb k (length (drawnOf s))) (numbers 0 0) (numbers 15 0)) (numbers 14 0)
-  pub is : (g : Segment) → r ≡ Given·Drawn g → g ≡ segmentOf (getD (drawnOf s) k (Move 0 0))
-  pub exact : (g : Segment) → r ≡ Given·Drawn g → All Exactly (numbersOf (getD (drawnOf s) k (Move 0 0)))

@@ -1,7 +1,9 @@
 // Document 01, module 9: the segments of a sheet, its whole text, a path text read and written again, and labels.
-// A sheet and a path text each give segments or a refusal (`sheetAnswer`, `Judged`); the promises say what of these is handed out or written.
+// A sheet and a path text each give segments or a refusal (`sheetAnswer`, `read`); the promises say what of these is handed out or written, and that `read` judges a text in document 01's words.
 ghost use mathlib.Core.Path.{_≡_};
-ghost use Rattle.path.specs.Promises.{IsSegment, IsWritten, IsCount, IsGiven, IsRewritten};
+ghost use Rattle.path.specs.Reader.{read};
+ghost use Rattle.path.specs.Answers.{sheetAnswer};
+ghost use Rattle.path.specs.Promises.{IsSegment, IsWritten, IsReading, IsCount, IsRewritten};
 ghost use Rattle.grid.specs.Labelled.{labelled, labelOutcomeOf};
 ghost use Rattle.path.specs.Label.{tabled, labelAnswerOf, IsLabelPart, IsLabelSpan};
 use chart::Answer;
@@ -87,7 +89,7 @@ pub struct LabelSpan {
 
 // Segment k of a sheet: 14, then 15.
 pub fn sheet_segment(s: SheetRecord, k: usize) -> Given
-    ensures { λ r. ⌜ IsSegment s k r ⌝ }
+    ensures { λ r. ⌜ IsSegment k (sheetAnswer s) r ⌝ }
 {
     if !sound(s) {
         return Given::Refused(14, 0);
@@ -115,7 +117,8 @@ pub fn write_sheet(s: SheetRecord, buf: &mut [u8]) -> Written
 
 // The count of segments of a path text: 17 to 19.
 pub fn text_count(text: &[u8]) -> Counted
-    ensures { λ r. ⌜ IsCount (now (text .entry)) r ⌝ }
+    ensures count { λ r. ⌜ IsCount (now (text .entry)) r ⌝ }
+    ensures reading { λ _. ⌜ IsReading (now (text .entry)) ⌝ }
 {
     let m = pass_over(text, 0);
     let s = m.stand;
@@ -128,7 +131,8 @@ pub fn text_count(text: &[u8]) -> Counted
 
 // Segment k of a path text: 17 to 19, then 15.
 pub fn text_segment(text: &[u8], k: usize) -> Given
-    ensures { λ r. ⌜ IsGiven (now (text .entry)) k r ⌝ }
+    ensures segment { λ r. ⌜ IsSegment k (read (now (text .entry))) r ⌝ }
+    ensures reading { λ _. ⌜ IsReading (now (text .entry)) ⌝ }
 {
     let m = pass_over(text, k);
     let s = m.stand;
@@ -150,7 +154,8 @@ pub fn text_segment(text: &[u8], k: usize) -> Given
 
 // A path text read and written again: 17 to 19, then 16. A text that is read is the text of its segments, so its bytes are copied.
 pub fn rewrite(text: &[u8], buf: &mut [u8]) -> Written
-    ensures { λ r. ⌜ IsRewritten (now (text .entry)) (now (buf .entry)) r (now (buf .exit)) ⌝ }
+    ensures written { λ r. ⌜ IsRewritten (now (text .entry)) (now (buf .entry)) r (now (buf .exit)) ⌝ }
+    ensures reading { λ _. ⌜ IsReading (now (text .entry)) ⌝ }
 {
     let m = pass_over(text, 0);
     let s = m.stand;

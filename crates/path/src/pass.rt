@@ -3,7 +3,7 @@ ghost use mathlib.Core.Path.{_≡_};
 ghost use Prim.Native.Nat.{_<_, _≤_};
 ghost use lib.ListN.{length};
 ghost use Rattle.path.specs.Reader.{moved};
-ghost use Rattle.path.specs.Pass.{empty, pushed, renewed, keptOf, begins, passed, passTo, drawnSix};
+ghost use Rattle.path.specs.code.Pass.{empty, pushed, renewed, keptOf, begins, passed, passTo, drawnSix};
 use crate::drawn::Drawn;
 use crate::reader::Act;
 use crate::reader::Phase;

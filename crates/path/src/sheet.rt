@@ -9,7 +9,7 @@ ghost use Rattle.path.specs.Drawn.{InRange};
 ghost use Rattle.path.specs.Text.{textOf};
 ghost use Rattle.path.specs.Writer.{IsPut, put};
 ghost use Rattle.path.specs.Segments.{drawnOf};
-ghost use Rattle.path.specs.Strokes.{boxStroke, curveStroke, IsStroke, strokeOf, nextText};
+ghost use Rattle.path.specs.code.Strokes.{boxStroke, curveStroke, IsStroke, strokeOf, nextText};
 use crate::drawn::Drawn;
 use crate::stroke::Stroke;
 use crate::stroke::drawn_of;

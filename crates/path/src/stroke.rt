@@ -3,7 +3,7 @@ ghost use mathlib.Core.Path.{_≡_};
 ghost use Prim.Native.Nat.{_*_, _≤_};
 ghost use Rattle.path.specs.Number.{limit};
 ghost use Rattle.path.specs.Drawn.{penOf, segmentOf};
-ghost use Rattle.path.specs.Strokes.{doubledOf, InReach};
+ghost use Rattle.path.specs.code.Strokes.{doubledOf, InReach};
 use crate::Pen;
 use crate::Segment;
 use crate::drawn::Drawn;

@@ -5,7 +5,7 @@ use mathlib.Core.Path.{_≡_, subst}
 use borrow.Author.Tests.{not-true, not-false}
 use lib.ListN.{length}
 use Rattle.laws.proofs.Lists.{mapped-long}
-use Rattle.graph.specs.Explore.{CutTables, over}
+use Rattle.graph.specs.code.Explore.{CutTables, over}
 use Rattle.graph.proofs.Begins.{drawn-refused, drawn-cuts, drawn-ready}
 use borrow.Author.Needs.{needs}
 use Rattle.graph.proofs.drawn.Statement.{statement}

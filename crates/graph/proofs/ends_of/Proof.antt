@@ -7,7 +7,7 @@ use mathlib.Core.List.{map}
 use lib.ListN.{length, take, length-set}
 use Rattle.laws.proofs.Lists.{mapped-long}
 use Rattle.graph.specs.declared.Item.{Item}
-use Rattle.graph.specs.Tables.{noItem}
+use Rattle.graph.specs.Outcome.{noItem}
 use Rattle.graph.proofs.Lists.{stored-more, stored-all}
 use borrow.Author.Needs.{needs}
 use Rattle.graph.proofs.ends_of.Statement.{statement}

@@ -14,7 +14,7 @@ order-of-requires : tie.Need-order-of-requires
 order-of-requires c κs = search needs
 
 returns : tie.Need-returns
-returns c = rw (c .order-of .ensures, c .before .ends-of2 .ensures, c .before .before .ends-of .ensures)
+returns c = rw (c .before .order-of .ensures .whole, c .before .before .ends-of2 .ensures, c .before .before .before .ends-of .ensures)
 
 pub first-in-spec : {M : Type 1} → statement M
 first-in-spec = tie.close (tie.spec ends-of-requires ends-of-requires-2 order-of-requires returns)

@@ -14,7 +14,7 @@ same-length : tie.Need-same-length
 same-length c = search needs
 
 returns : tie.Need-returns
-returns c = let w = c .before .before .before .rewrite in rewrite-is _ _ (w .result) _ (w .ensures) _ (c .written .ensures)
+returns c = let w = c .before .before .before .rewrite in (rewrite-is _ _ (w .result) _ (w .ensures .0) _ (c .written .ensures), w .ensures .1)
 
 pub margalhosa-rewrite-spec : {M : Type 1} → statement M
 margalhosa-rewrite-spec =

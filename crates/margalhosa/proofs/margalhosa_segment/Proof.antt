@@ -1,4 +1,5 @@
 -- `margalhosa_segment`: the answer of `path::sheet_segment`. Assumes nothing.
+use Rattle.margalhosa.proofs.Results.{segment-is}
 use borrow.Author.Needs.{needs}
 use Rattle.margalhosa.proofs.margalhosa_segment.Statement.{statement}
 use Rattle.margalhosa.proofs.margalhosa_segment.Tie as tie
@@ -10,7 +11,7 @@ given-requires : tie.Need-given-requires
 given-requires c κs = search needs
 
 returns : tie.Need-returns
-returns c = record { given = c .before .sheet-segment .result; promised = c .before .sheet-segment .ensures; whole = c .given .ensures }
+returns c = let g = c .before .sheet-segment in segment-is _ _ (g .result) (g .ensures) _ (c .given .ensures)
 
 pub margalhosa-segment-spec : {M : Type 1} → statement M
 margalhosa-segment-spec = tie.close (tie.spec sheet-segment-requires given-requires returns)

@@ -16,7 +16,12 @@ enum-told : tie.Need-enum-told
 enum-told c = search needs
 
 returns : tie.Need-returns
-returns c = is-rewritten _ _ _ _ (again-short 0 (c .before .before .before .before .before .before .before .before .args .text .now) (c .before .before .before .before .before .pass-over .result) (c .before .before .before .judge .result) (c .before .before .before .before .before .pass-over .ensures) (c .before .before .before .judge .ensures) (c .before .enum-told .given .1) (c .before .before .before .before .before .before .before .before .args .buf .now) (omega arith))
+returns c =
+    let i = c .before in
+    let v = i .before .before in
+    let m = v .before .before in
+    let a = m .before .before .before .args in
+    is-rewritten _ _ _ _ (again-short 0 (a .text .now) (m .pass-over .result) (v .judge .result) (m .pass-over .ensures) (v .judge .ensures) (i .enum-told .given .1) (a .buf .now) (omega arith))
 
 copy-requires : tie.Need-copy-requires
 copy-requires c κs = search needs
@@ -25,13 +30,24 @@ same-length : tie.Need-same-length
 same-length c = search needs
 
 returns-2 : tie.Need-returns-2
-returns-2 c = is-rewritten _ _ _ _ (again-done 0 (c .before .before .before .before .before .before .before .before .before .before .before .before .args .text .now) (c .before .before .before .before .before .before .before .before .before .pass-over .result) (c .before .before .before .before .before .before .before .judge .result) (c .before .before .before .before .before .before .before .before .before .pass-over .ensures) (c .before .before .before .before .before .before .before .judge .ensures) (c .before .before .before .before .before .enum-told .given .1) (c .before .before .before .before .before .before .before .before .before .before .before .before .args .buf .now) (c .before .before .copy .last .1 .0) (omega arith) (c .before .before .copy .ensures))
+returns-2 c =
+    let w = c .before .before .copy in
+    let i = c .before .before .before .before .before in
+    let v = i .before .before in
+    let m = v .before .before in
+    let a = m .before .before .before .args in
+    is-rewritten _ _ _ _ (again-done 0 (a .text .now) (m .pass-over .result) (v .judge .result) (m .pass-over .ensures) (v .judge .ensures) (i .enum-told .given .1) (a .buf .now) (w .last .1 .0) (omega arith) (w .ensures))
 
 enum-known-v : tie.Need-enum-known-v
 enum-known-v c = search needs
 
 returns-3 : tie.Need-returns-3
-returns-3 c = is-rewritten _ _ _ _ (again-refused 0 (c .before .before .before .before .before .before .before .before .args .text .now) (c .before .before .before .before .before .pass-over .result) (c .before .before .before .judge .result) (c .before .before .before .before .before .pass-over .ensures) (c .before .before .before .judge .ensures) (c .before .v .given .0 .0) (c .before .v .given .0 .1 .0) (c .before .v .given .1) (c .before .before .before .before .before .before .before .before .args .buf .now))
+returns-3 c =
+    let v = c .before .before .before in
+    let m = v .before .before in
+    let a = m .before .before .before .args in
+    let n = c .before .v .given in
+    is-rewritten _ _ _ _ (again-refused 0 (a .text .now) (m .pass-over .result) (v .judge .result) (m .pass-over .ensures) (v .judge .ensures) (n .0 .0) (n .0 .1 .0) (n .1) (a .buf .now))
 
 pub rewrite-spec : {M : Type 1} → statement M
 rewrite-spec =

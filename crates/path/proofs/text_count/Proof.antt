@@ -18,10 +18,17 @@ enum-known-v : tie.Need-enum-known-v
 enum-known-v c = search needs
 
 returns : tie.Need-returns
-returns c = is-count _ _ (count-fine 0 (c .before .before .before .before .before .before .args .text .now) (c .before .before .before .before .pass-over .result) (c .before .before .judge .result) (c .before .before .before .before .pass-over .ensures) (c .before .before .judge .ensures) (c .enum-told .given .1))
+returns c =
+    let v = c .before .before in
+    let m = v .before .before in
+    is-count _ _ (count-fine 0 (m .before .before .args .text .now) (m .pass-over .result) (v .judge .result) (m .pass-over .ensures) (v .judge .ensures) (c .enum-told .given .1))
 
 returns-2 : tie.Need-returns-2
-returns-2 c = is-count _ _ (count-refused 0 (c .before .before .before .before .before .before .before .args .text .now) (c .before .before .before .before .before .pass-over .result) (c .before .before .before .judge .result) (c .before .before .before .before .before .pass-over .ensures) (c .before .before .before .judge .ensures) (c .before .v .given .0 .0) (c .before .v .given .0 .1 .0) (c .before .v .given .1))
+returns-2 c =
+    let v = c .before .before .before in
+    let m = v .before .before in
+    let n = c .before .v .given in
+    is-count _ _ (count-refused 0 (m .before .before .args .text .now) (m .pass-over .result) (v .judge .result) (m .pass-over .ensures) (v .judge .ensures) (n .0 .0) (n .0 .1 .0) (n .1))
 
 pub text-count-spec : {M : Type 1} → statement M
 text-count-spec =

@@ -6,7 +6,7 @@ use native.Mathlib.Omega.{arith}
 use borrow.Author.Needs.{needs}
 use lib.ListN.{length}
 use Rattle.laws.proofs.Lists.{mapped-long}
-use Rattle.graph.specs.Tables.{itemsOf, linesOf}
+use Rattle.graph.specs.code.Tables.{itemsOf, linesOf}
 use Rattle.graph.proofs.Lists.{node-graph}
 use Rattle.graph.proofs.Sinks.{same-refl, Right, right-end, right-other, right-sunk, right-own}
 use Rattle.graph.proofs.completion.complete_sources.Statement.{statement}

@@ -5,7 +5,8 @@ use mathlib.Core.Path.{_≡_, sym, _∙_}
 use native.Mathlib.Omega.{arith}
 use lib.ListN.{length, getD}
 use Rattle.laws.proofs.Lists.{mapped-long}
-use Rattle.graph.specs.Tables.{itemsOf, noItem}
+use Rattle.graph.specs.code.Tables.{itemsOf}
+use Rattle.graph.specs.Outcome.{noItem}
 use Rattle.graph.proofs.Lists.{table-size, table-at}
 use Rattle.graph.proofs.Cuts.{owned-le}
 use Rattle.graph.proofs.Sinks.{sink-kept, sink-gained}

@@ -7,7 +7,7 @@ use lib.ListN.{length, drop}
 use borrow.Author.Needs.{needs}
 use Rattle.laws.proofs.Lists.{mapped-long}
 use Rattle.graph.specs.Graph.{hasMarked}
-use Rattle.graph.specs.Tables.{owned, itemsOf}
+use Rattle.graph.specs.code.Tables.{owned, itemsOf}
 use Rattle.graph.proofs.Lists.{marked-look, marked-none}
 use Rattle.graph.proofs.completion.has_marked.Statement.{statement}
 use Rattle.graph.proofs.completion.has_marked.Tie as tie

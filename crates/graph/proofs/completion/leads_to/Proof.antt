@@ -7,7 +7,7 @@ use borrow.Author.Tests.{eq-eqb, ne-eqb}
 use lib.ListN.{length, drop}
 use Rattle.laws.proofs.Lists.{mapped-long}
 use Rattle.graph.specs.Graph.{leadsTo}
-use Rattle.graph.specs.Tables.{owned, itemsOf}
+use Rattle.graph.specs.code.Tables.{owned, itemsOf}
 use Rattle.graph.proofs.Lists.{leads-own, leads-other, leads-end}
 use Rattle.graph.proofs.completion.leads_to.Statement.{statement}
 use Rattle.graph.proofs.completion.leads_to.Tie as tie

@@ -4,7 +4,8 @@ use mathlib.Core.Path.{_≡_, refl}
 use lib.ListN.{length, getD}
 use lib.Seq.{take-set-lt}
 use Rattle.laws.proofs.Lists.{mapped-long}
-use Rattle.graph.specs.Tables.{noItem, markItem}
+use Rattle.graph.specs.code.Tables.{markItem}
+use Rattle.graph.specs.Outcome.{noItem}
 use Rattle.graph.proofs.Lists.{table-at}
 use Rattle.graph.proofs.completion.marked.Statement.{statement}
 use borrow.Author.Needs.{needs}

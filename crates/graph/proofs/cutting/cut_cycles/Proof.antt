@@ -12,8 +12,9 @@ use Rattle.graph.specs.declared.Table.{Table}
 use Rattle.graph.specs.declared.Tables.{Tables}
 use Rattle.graph.specs.declared.cutting.Look.{Look}
 use Rattle.graph.specs.Cutting.{Walk, exploreFrom}
-use Rattle.graph.specs.Tables.{itemsOf, noItem, Sunk}
-use Rattle.graph.specs.Explore.{Explore, noLook, IsFound, Ready, Kept, answer, effort, walkOf}
+use Rattle.graph.specs.code.Tables.{itemsOf, Sunk}
+use Rattle.graph.specs.Outcome.{noItem}
+use Rattle.graph.specs.code.Explore.{Explore, noLook, IsFound, Ready, Kept, answer, effort, walkOf}
 use Rattle.graph.proofs.Lists.{table-size, table-at}
 use Rattle.graph.proofs.Cuts.{cut-to}
 use Rattle.graph.proofs.Advances.{begins, begun-is, ends, x-node-in, x-leave, x-k-in, x-sink-in, x-to-in, x-room, x-node, x-pass, x-enter, x-refuse, x-cut}

@@ -6,7 +6,7 @@ use borrow.Author.Needs.{needs}
 use lib.ListN.{length, take}
 use lib.Seq.{take-all}
 use Rattle.laws.proofs.Lists.{mapped-long}
-use Rattle.graph.specs.Tables.{owned, itemsOf}
+use Rattle.graph.specs.code.Tables.{owned, itemsOf}
 use Rattle.graph.proofs.Lists.{table-size, table-at}
 use Rattle.graph.proofs.Cuts.{counted-own, counted-other}
 use Rattle.graph.proofs.cutting.find_sink.Statement.{statement}

@@ -10,7 +10,8 @@ use lib.ListN.{length, take, drop, getD, set, drop-of-length-le}
 use lib.Seq.{take-all, take-set-lt, getD-take, length-take-le}
 use Rattle.laws.proofs.Lists.{mapped-long}
 use Rattle.graph.specs.declared.Item.{Item}
-use Rattle.graph.specs.Tables.{noItem, turnItem}
+use Rattle.graph.specs.code.Tables.{turnItem}
+use Rattle.graph.specs.Outcome.{noItem}
 use Rattle.graph.proofs.Cuts.{map-step}
 use Rattle.graph.proofs.cutting.turn.Statement.{statement}
 use Rattle.graph.proofs.cutting.turn.Tie as tie

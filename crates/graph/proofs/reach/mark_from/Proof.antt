@@ -6,8 +6,8 @@ use native.Mathlib.Omega.{arith}
 use lib.ListN.{length, take}
 use borrow.Author.Needs.{needs}
 use Rattle.laws.proofs.Lists.{mapped-long}
-use Rattle.graph.specs.Path.{Good, answer, effort}
-use Rattle.graph.specs.Tables.{graphOf}
+use Rattle.graph.specs.code.Path.{Good, answer, effort}
+use Rattle.graph.specs.code.Tables.{graphOf}
 use Rattle.graph.proofs.Steps.{mark-seen, seen-at, starts, starts-good, ends, step-pop, step-other, step-seen, step-push, step-room, step-to}
 use Rattle.graph.proofs.reach.mark_from.Statement.{statement}
 use Rattle.graph.proofs.reach.mark_from.Tie as tie

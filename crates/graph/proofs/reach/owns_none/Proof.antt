@@ -1,8 +1,8 @@
 -- `reach::owns_none`: record number 0 of those that p owns, or none.
 -- Assumes nothing.
 use mathlib.Core.Path.{subst}
-use Rattle.graph.specs.Tables.{itemsOf}
-use Rattle.graph.specs.Explore.{IsFound}
+use Rattle.graph.specs.code.Tables.{itemsOf}
+use Rattle.graph.specs.code.Explore.{IsFound}
 use Rattle.graph.proofs.Cuts.{none-of, some-of}
 use Rattle.graph.proofs.reach.owns_none.Statement.{statement}
 use borrow.Author.Needs.{needs}

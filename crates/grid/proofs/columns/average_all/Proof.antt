@@ -7,8 +7,8 @@ use mathlib.Core.List.{_++_}
 use lib.ListN.{length, take, drop}
 use Rattle.laws.specs.Each.{each}
 use Rattle.grid.specs.Columns.{averageTo, averageOne, average}
-use Rattle.grid.specs.Leads.{shapeIn}
-use Rattle.grid.specs.Arrays.{Boxes}
+use Rattle.grid.specs.code.Leads.{shapeIn}
+use Rattle.grid.specs.code.Arrays.{Boxes}
 use Rattle.grid.proofs.LeadLaws.{leads-long}
 use Rattle.grid.proofs.RoundLaws.{step-take, step-drop, steps-whole, average-same, averaged-boxes}
 use borrow.Author.Needs.{needs}

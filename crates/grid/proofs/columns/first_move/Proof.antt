@@ -5,7 +5,7 @@ use native.Mathlib.Omega.{arith}
 use mathlib.Core.Path.{sym, _∙_}
 use mathlib.Core.List.{map}
 use Rattle.grid.specs.Columns.{at}
-use Rattle.grid.specs.Leads.{part}
+use Rattle.grid.specs.code.Leads.{part}
 use Rattle.grid.proofs.ListLaws.{smallest-le}
 use Rattle.grid.proofs.PartLaws.{rise, few, leads, columns-below}
 use Rattle.grid.proofs.MoveLaws.{few-stay, taken-stays, free-moves}

@@ -6,7 +6,7 @@ use mathlib.Core.Path.{_≡_, refl}
 use lib.ListN.{length, take, drop}
 use Rattle.laws.specs.Each.{each}
 use Rattle.grid.specs.Columns.{firstMove, firstMoves}
-use Rattle.grid.specs.Leads.{shapeIn}
+use Rattle.grid.specs.code.Leads.{shapeIn}
 use Rattle.grid.proofs.LeadLaws.{leads-long}
 use Rattle.grid.proofs.RoundLaws.{step-take, step-drop, steps-whole, move-same, moved-boxes}
 use borrow.Author.Needs.{needs}

@@ -7,7 +7,7 @@ use mathlib.Core.List.{map}
 use lib.ListN.{length}
 use Rattle.grid.specs.Lists.{largest}
 use Rattle.grid.specs.Columns.{at}
-use Rattle.grid.specs.Leads.{part}
+use Rattle.grid.specs.code.Leads.{part}
 use Rattle.grid.proofs.PartLaws.{part-none, part-down, part-long}
 use borrow.Author.Needs.{needs}
 use Rattle.grid.proofs.columns.largest_end.Statement.{statement}

@@ -7,7 +7,7 @@ use mathlib.Core.Logic.{⊎-elim}
 use mathlib.Core.Bool.{Bool, false, cond}
 use lib.ListN.{length, take, set, length-set}
 use Rattle.grid.specs.Columns.{collision, extra}
-use Rattle.grid.specs.Arrays.{tableTo, nextNew}
+use Rattle.grid.specs.code.Arrays.{tableTo, nextNew}
 use Rattle.grid.proofs.ColumnLaws.{found, extra-le}
 use Rattle.grid.proofs.FoldLaws.{clash-both, clash-not-left, clash-not-right, next-row, table-more, next-next, table-none}
 use borrow.Author.Needs.{needs}

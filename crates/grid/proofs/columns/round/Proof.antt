@@ -1,6 +1,6 @@
 -- `columns::round`: two folds and the averaging.
 -- Assumes nothing.
-use Rattle.grid.specs.Leads.{shapeIn}
+use Rattle.grid.specs.code.Leads.{shapeIn}
 use Rattle.grid.proofs.RoundLaws.{once-boxes, twice-boxes, round-is}
 use borrow.Author.Needs.{needs}
 use Rattle.grid.proofs.columns.round.Statement.{statement}

@@ -4,8 +4,8 @@ use Prim.Native.Nat.{_-_, _≤_}
 use native.Mathlib.Omega.{arith}
 use mathlib.Core.Path.{_≡_, ap, _∙_}
 use lib.ListN.{drop, replicate}
-use Rattle.grid.specs.Leads.{shapeIn}
-use Rattle.grid.specs.Walk.{rowsOf}
+use Rattle.grid.specs.code.Leads.{shapeIn}
+use Rattle.grid.specs.code.Walk.{rowsOf}
 use Rattle.grid.proofs.LeadLaws.{leads-long}
 use Rattle.grid.proofs.LowerLaws.{done, done-first, done-more, done-all}
 use Rattle.laws.proofs.Lists.{drop-replicate}

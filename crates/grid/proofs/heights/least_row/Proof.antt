@@ -8,7 +8,7 @@ use lib.IntN.{ℤ, pos}
 use lib.ListN.{length, getD}
 use mir.Syntax.{w8}
 use mir.Val.{toZ}
-use Rattle.grid.specs.Walk.{IsLeast, lesserOf}
+use Rattle.grid.specs.code.Walk.{IsLeast, lesserOf}
 use Rattle.grid.proofs.SignedLaws.{back, lesser-back}
 use Rattle.grid.proofs.LowerLaws.{part, least-first, least-down}
 use borrow.Author.Needs.{needs}

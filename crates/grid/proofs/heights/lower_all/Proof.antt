@@ -1,8 +1,8 @@
 -- `heights::lower_all` counts down.
 -- Assumes nothing.
-use Prim.Native.Nat.{_-_, _≤_, _<_}
+use Prim.Native.Nat.{ℕ, _-_, _≤_, _<_}
 use native.Mathlib.Omega.{arith}
-use mathlib.Core.Path.{_≡_, refl, _∙_}
+use mathlib.Core.Path.{_≡_, refl, ap, _∙_}
 use mathlib.Core.Bool.{Bool, false}
 use lib.IntN.{ℤ, pos}
 use lib.ListN.{length, getD, drop, length-set}
@@ -11,8 +11,8 @@ use mir.Syntax.{w8}
 use mir.Val.{toZ}
 use Rattle.grid.specs.Columns.{at}
 use Rattle.grid.specs.Heights.{lowered}
-use Rattle.grid.specs.Walk.{raised, lowerBy}
-use Rattle.grid.proofs.SignedLaws.{back, lower-back, above-back}
+use Rattle.grid.specs.code.Walk.{raised, lowerBy, renumberedOf}
+use Rattle.grid.proofs.SignedLaws.{back, lower-back, renumbered-is, above-back}
 use Rattle.grid.proofs.LowerLaws.{from, part, above-at, lower-down, lower-end}
 use borrow.Author.Needs.{needs}
 use Rattle.grid.proofs.heights.lower_all.Statement.{statement}
@@ -46,9 +46,6 @@ array-read-lower-one c = omega (arith, c .before .loop .inv .0, c .before .befor
 array-copy-out-lower-one : tie.Need-array-copy-out-lower-one Inv-loop μ-loop
 array-copy-out-lower-one c = omega (arith, c .before .loop .inv .0, c .before .before .pre .0)
 
-array-read-lower-one-2 : tie.Need-array-read-lower-one-2 Inv-loop μ-loop
-array-read-lower-one-2 c = omega (arith, c .before .before .loop .inv .0, c .before .before .before .pre .0)
-
 lower-one-requires : tie.Need-lower-one-requires Inv-loop μ-loop
 lower-one-requires c κs =
     let z = c .before .before .before in
@@ -56,29 +53,39 @@ lower-one-requires c κs =
     above-back (getD (z .args .t1) (l .k - 1) false) (getD (z .args .t2) (l .k - 1) (pos 0)) (z .args .m)
     (above-at (z .args .n) (z .args .t1) (z .args .t2) (long-seen z) (long-walked z) (z .pre .1) (z .pre .0) (z .args .m) (z .pre .2) (l .k - 1) (omega (arith, l .inv .0)))
 
+array-read-renumbered : tie.Need-array-read-renumbered Inv-loop μ-loop
+array-read-renumbered c = let h = c .before .before .before in omega (arith, h .loop .inv .0, h .before .pre .0)
+
+renumbered-requires : tie.Need-renumbered-requires Inv-loop μ-loop
+renumbered-requires c κs = search needs
+
 array-write-moved : tie.Need-array-write-moved Inv-loop μ-loop
-array-write-moved c = omega (arith, c .before .before .before .loop .inv .0, c .before .before .before .before .pre .0)
+array-write-moved c = let h = c .before .before .before .before in omega (arith, h .loop .inv .0, h .before .pre .0)
 
 loop-less : tie.Need-loop-less Inv-loop μ-loop
 loop-less c = search needs
 
 loop-again : tie.Need-loop-again Inv-loop μ-loop
 loop-again c =
-    let z = c .before .before .before .before in
-    let l = c .before .before .before .loop in
+    let o = c .before .lower-one in
+    let h = c .before .before .before .before in
+    let z = h .before in
+    let l = h .loop in
     let b : Bool = getD (z .args .t1) (l .k - 1) false in
     let y : ℤ = getD (z .args .t2) (l .k - 1) (pos 0) in
     let m : ℤ = z .args .m in
-    let h : 0 < l .k = search needs in
+    let some : 0 < l .k = search needs in
     let em = back m (omega (arith, z .pre .0, z .pre .2 .near)) in
-    let e : c .lower-one .result ≡ lowerBy b y m (at (z .args .t3) (l .k - 1)) =
-    (rw em at (c .lower-one .ensures)) ∙ lower-back b y m (at (z .args .t3) (l .k - 1)) (λ e. omega (arith, z .pre .0, z .pre .1 .near (l .k - 1) (omega (arith, l .inv .0)) e)) in (
+    let f : o .result ≡ lowerBy b y m 0 =
+    (rw em at (o .ensures)) ∙ lower-back b y m 0 (λ e. omega (arith, z .pre .0, z .pre .1 .near (l .k - 1) (omega (arith, l .inv .0)) e)) in
+    let e : c .renumbered .result ≡ lowerBy b y m (at (z .args .t3) (l .k - 1)) =
+    c .renumbered .ensures ∙ ap (λ (u : ℕ). renumberedOf u (at (z .args .t3) (l .k - 1))) f ∙ renumbered-is b y m (at (z .args .t3) (l .k - 1)) in (
       omega (arith, l .inv .0),
-      length-set (l .moved) (l .k - 1) (c .lower-one .result) ∙ l .inv .1,
+      length-set (l .moved) (l .k - 1) (c .renumbered .result) ∙ l .inv .1,
       rw em
           (lower-down (z .args .n) (z .args .t1) (z .args .t2) (long-seen z) (long-walked z) (z .pre .1) (z .pre .0) m (z .pre .2) (z .args .t3) (l .moved)
-          (omega (arith, long-rows z, z .pre .0)) (omega (arith, l .inv .1, z .pre .0)) (l .k) (c .lower-one .result) h (l .inv .0) e (rw em at (l .inv .2))),
-      drop-set-lt (z .args .n) (l .moved) (l .k - 1) (c .lower-one .result) (omega (arith, l .inv .0)) ∙ l .inv .3,
+          (omega (arith, long-rows z, z .pre .0)) (omega (arith, l .inv .1, z .pre .0)) (l .k) (c .renumbered .result) some (l .inv .0) e (rw em at (l .inv .2))),
+      drop-set-lt (z .args .n) (l .moved) (l .k - 1) (c .renumbered .result) (omega (arith, l .inv .0)) ∙ l .inv .3,
     )
 
 returns : tie.Need-returns Inv-loop μ-loop
@@ -99,8 +106,9 @@ lower-all-spec =
     sub-k
     array-read-lower-one
     array-copy-out-lower-one
-    array-read-lower-one-2
     lower-one-requires
+    array-read-renumbered
+    renumbered-requires
     array-write-moved
     loop-less
     loop-again

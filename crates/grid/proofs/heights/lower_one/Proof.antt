@@ -5,7 +5,7 @@ use native.Mathlib.Numerals.{add-one}
 use mathlib.Core.Path.{_≡_, subst}
 use mathlib.Core.Bool.{Bool, true}
 use mir.Facts.{toZ-ofZ}
-use Rattle.grid.specs.Walk.{Above}
+use Rattle.grid.specs.code.Walk.{Above}
 use Rattle.grid.proofs.SignedLaws.{gap-fits, gap-small, gap-positive}
 use borrow.Author.Needs.{needs}
 use Rattle.grid.proofs.heights.lower_one.Statement.{statement}

@@ -6,8 +6,8 @@ use mathlib.Core.Path.{_≡_, refl, ap, _∙_}
 use lib.ListN.{length}
 use Rattle.laws.proofs.Lists.{mapped-long}
 use Rattle.graph.specs.Shape.{Shape}
-use Rattle.grid.specs.Leads.{shapeIn}
-use Rattle.grid.specs.Walk.{raised, AllNear, reachedIn}
+use Rattle.grid.specs.code.Leads.{shapeIn}
+use Rattle.grid.specs.code.Walk.{raised, AllNear, reachedIn}
 use Rattle.grid.proofs.LeadLaws.{leads-long}
 use Rattle.grid.proofs.SignedLaws.{back}
 use Rattle.grid.proofs.LowerLaws.{turn-done, turn-walk, walk-near}

@@ -13,8 +13,8 @@ use mir.Val.{toZ, ofZ}
 use Rattle.grid.specs.declared.heights.Frame.{Frame}
 use Rattle.grid.specs.Columns.{at}
 use Rattle.grid.specs.Heights.{reachedFrom}
-use Rattle.grid.specs.Leads.{shapeIn, Led}
-use Rattle.grid.specs.Walk.{noFrame, signedBy, Path, Good, Stepped, answer, effort}
+use Rattle.grid.specs.code.Leads.{shapeIn, Led}
+use Rattle.grid.specs.code.Walk.{noFrame, signedBy, Path, Good, Stepped, answer, effort}
 use Rattle.grid.proofs.SignedLaws.{back, near-by}
 use Rattle.grid.proofs.WalkSteps.{step-node, step-near, step-pop, step-at, step-to, step-seen, step-room, step-push, ends, starts-good, starts}
 use borrow.Author.Needs.{needs}

@@ -11,9 +11,10 @@ use Rattle.grid.proofs.Arrays.{own-up, other-up, none-left}
 use Rattle.grid.proofs.LabelLaws.{seek-none, seek-first, seek-next}
 use Rattle.graph.specs.declared.Item.{Item}
 use Rattle.graph.specs.Graph.{given}
-use Rattle.graph.specs.Tables.{owned, itemsOf, edgeOf, noItem}
+use Rattle.graph.specs.code.Tables.{owned, itemsOf, edgeOf}
+use Rattle.graph.specs.Outcome.{noItem}
 use Rattle.grid.specs.RenderNode.{Text, endTexts, endWidth}
-use Rattle.grid.specs.Labels.{seek}
+use Rattle.grid.specs.code.Sited.{seek}
 use borrow.Author.Needs.{needs}
 use Rattle.grid.proofs.label.end_label.Statement.{statement}
 use Rattle.grid.proofs.label.end_label.Tie as tie

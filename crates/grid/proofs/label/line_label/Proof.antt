@@ -10,11 +10,12 @@ use Rattle.grid.proofs.Arrays.{own-up, other-up, none-left}
 use Rattle.grid.proofs.LabelLaws.{seek-first, seek-next}
 use Rattle.graph.specs.declared.Item.{Item}
 use Rattle.graph.specs.Graph.{given, number}
-use Rattle.graph.specs.Tables.{owned, numberLine}
+use Rattle.graph.specs.code.Tables.{owned, numberLine}
 use Rattle.grid.specs.RenderNode.{Text, lineTexts}
-use Rattle.grid.specs.Labels.{seek}
+use Rattle.grid.specs.code.Sited.{seek}
 use Rattle.chart.specs.declared.Line.{Line as LineItem}
-use Rattle.chart.specs.Tables.{ownedLines, linesOf, partOf, noLine}
+use Rattle.chart.specs.Tables.{noLine}
+use Rattle.chart.specs.code.Filled.{ownedLines, linesOf, partOf}
 use borrow.Author.Needs.{needs}
 use Rattle.grid.proofs.label.line_label.Statement.{statement}
 use Rattle.grid.proofs.label.line_label.Tie as tie

@@ -11,7 +11,8 @@ use Rattle.graph.specs.Graph.{number}
 use Rattle.grid.specs.RenderNode.{Text}
 use mathlib.Core.Bool.{true}
 use Rattle.grid.specs.declared.label.Seek.{Seek}
-use Rattle.grid.specs.Labels.{seek, placeOf}
+use Rattle.grid.specs.Labels.{placeOf}
+use Rattle.grid.specs.code.Sited.{seek}
 use Rattle.grid.specs.RenderNode.{lineLength}
 use borrow.Author.Needs.{needs}
 use Rattle.grid.proofs.label.number_label.Statement.{statement}

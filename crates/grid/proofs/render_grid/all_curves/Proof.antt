@@ -11,12 +11,13 @@ use Rattle.laws.specs.Each.{each}
 use Rattle.laws.proofs.Each.{next}
 use Rattle.laws.proofs.Lists.{mapped-long}
 use Rattle.graph.specs.declared.Item.{Item}
-use Rattle.graph.specs.Tables.{owned, itemsOf, edgeOf, noItem, markOf}
+use Rattle.graph.specs.code.Tables.{owned, itemsOf, edgeOf, markOf}
+use Rattle.graph.specs.Outcome.{noItem}
 use Rattle.grid.specs.declared.render_node.Run.{Run}
 use Rattle.grid.specs.declared.render_grid.Found.{Found}
 use Rattle.grid.specs.RenderNode.{Input, inputsAt, endWidth}
 use Rattle.grid.specs.Curves.{outputFor, curveIf}
-use Rattle.grid.specs.Laid.{runAt, Low, laidInputs, laidOutputs, curveOf, addAll, noCurves, curvesOver, curvesAt}
+use Rattle.grid.specs.code.Laid.{runAt, Low, laidInputs, laidOutputs, curveOf, addAll, noCurves, curvesOver, curvesAt}
 use Rattle.grid.proofs.Arrays.{own-up, other-up, none-left, all-take-at}
 use Rattle.grid.proofs.CurveLaws.{curve-is, add-join, add-few}
 use Rattle.grid.proofs.LaidLaws.{run-low}

@@ -5,7 +5,7 @@ use mathlib.Core.Path.{_≡_, refl, ap, _∙_}
 use native.Mathlib.Omega.{arith}
 use Rattle.grid.proofs.Arrays.{filled-next}
 use Rattle.grid.specs.Record.{noBox}
-use Rattle.grid.specs.Laid.{boxFrom, boxesFrom}
+use Rattle.grid.specs.code.Laid.{boxFrom, boxesFrom}
 use borrow.Author.Needs.{needs}
 use Rattle.grid.proofs.render_grid.box_records.Statement.{statement}
 use Rattle.grid.proofs.render_grid.box_records.Tie as tie

@@ -9,10 +9,11 @@ use lib.ListN.{length, drop, take, getD}
 use Rattle.laws.proofs.Lists.{mapped-long}
 use Rattle.grid.proofs.Arrays.{own-up, other-up, none-left}
 use Rattle.graph.specs.declared.Item.{Item}
-use Rattle.graph.specs.Tables.{owned, itemsOf, edgeOf, noItem}
+use Rattle.graph.specs.code.Tables.{owned, itemsOf, edgeOf}
+use Rattle.graph.specs.Outcome.{noItem}
 use Rattle.grid.specs.RenderNode.{outputsAt}
 use Rattle.grid.specs.Curves.{firstTo}
-use Rattle.grid.specs.Laid.{laidOutputs, foundOf}
+use Rattle.grid.specs.code.Laid.{laidOutputs, foundOf}
 use borrow.Author.Needs.{needs}
 use Rattle.grid.proofs.render_grid.first_output.Statement.{statement}
 use Rattle.grid.proofs.render_grid.first_output.Tie as tie

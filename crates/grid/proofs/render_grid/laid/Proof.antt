@@ -6,9 +6,9 @@ use mathlib.Core.List.{List}
 use native.Mathlib.Omega.{arith}
 use lib.ListN.{length, take, getD}
 use Rattle.laws.specs.Lists.{All}
-use Rattle.graph.specs.Tables.{graphOf}
-use Rattle.grid.specs.Rendered.{Noted, AllModest}
-use Rattle.grid.specs.Laid.{Bounded, sizesIn, Movable}
+use Rattle.graph.specs.code.Tables.{graphOf}
+use Rattle.grid.specs.code.Rendered.{Noted, AllModest}
+use Rattle.grid.specs.code.Laid.{Bounded, sizesIn, Movable}
 use Rattle.grid.proofs.SheetLaws.{Begun, begun, begun-le, small-widths, small-heights, last-column, last-row, inputs-move, outputs-move, laid-is}
 use borrow.Author.Needs.{needs}
 use Rattle.grid.proofs.render_grid.laid.Statement.{statement}

@@ -6,7 +6,7 @@ use native.Mathlib.Omega.{arith}
 use native.Mathlib.Numerals.{add-one}
 use lib.ListN.{take}
 use Rattle.grid.specs.RenderGrid.{begins, extent as extentOf}
-use Rattle.grid.specs.Laid.{sizesIn, beginsTo}
+use Rattle.grid.specs.code.Laid.{sizesIn, beginsTo}
 use Rattle.grid.proofs.Arrays.{filled-next}
 use Rattle.grid.proofs.LaidLaws.{extent-le}
 use borrow.Author.Needs.{needs}

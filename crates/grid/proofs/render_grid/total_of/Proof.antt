@@ -3,7 +3,7 @@
 use Prim.Native.Nat.{_≤_}
 use native.Mathlib.Omega.{arith}
 use lib.ListN.{take}
-use Rattle.grid.specs.Laid.{sizesIn}
+use Rattle.grid.specs.code.Laid.{sizesIn}
 use Rattle.grid.proofs.LaidLaws.{extent-le}
 use borrow.Author.Needs.{needs}
 use Rattle.grid.proofs.render_grid.total_of.Statement.{statement}

@@ -9,9 +9,10 @@ use Rattle.laws.proofs.Lists.{mapped-long}
 use Rattle.grid.proofs.Arrays.{own-down, other-down, none-left}
 use Rattle.chart.specs.declared.Line.{Line as LineItem}
 use Rattle.chart.specs.declared.Lines.{Lines}
-use Rattle.chart.specs.Tables.{ownedLines, linesOf, partOf, noLine}
+use Rattle.chart.specs.Tables.{noLine}
+use Rattle.chart.specs.code.Filled.{ownedLines, linesOf, partOf}
 use Rattle.graph.specs.Graph.{Line, given}
-use Rattle.graph.specs.Tables.{numberLine}
+use Rattle.graph.specs.code.Tables.{numberLine}
 use Rattle.grid.specs.Lists.{largest}
 use Rattle.grid.specs.RenderNode.{lineLength}
 use Rattle.grid.proofs.NodeLaws.{number-short}

@@ -10,7 +10,8 @@ use Rattle.grid.proofs.Arrays.{own-down, other-down, none-left}
 use Rattle.graph.specs.declared.Item.{Item}
 use Rattle.graph.specs.declared.Table.{Table}
 use Rattle.graph.specs.Graph.{Edge}
-use Rattle.graph.specs.Tables.{owned, itemsOf, edgeOf, noItem}
+use Rattle.graph.specs.code.Tables.{owned, itemsOf, edgeOf}
+use Rattle.graph.specs.Outcome.{noItem}
 use Rattle.grid.specs.Lists.{total}
 use Rattle.grid.specs.RenderNode.{textLength}
 use borrow.Author.Needs.{needs}

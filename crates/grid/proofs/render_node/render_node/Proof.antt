@@ -3,7 +3,7 @@
 use Prim.Native.Nat.{_-_, _*_, _≤_}
 use native.Mathlib.Omega.{arith}
 use native.Mathlib.Nat.{div-le-self}
-use Rattle.grid.specs.Rendered.{renderFrom}
+use Rattle.grid.specs.code.Rendered.{renderFrom}
 use Rattle.grid.proofs.NodeLaws.{text-le, empty-le, lines-le, gap-le, first-le}
 use borrow.Author.Needs.{needs}
 use Rattle.grid.proofs.render_node.render_node.Statement.{statement}

@@ -7,9 +7,9 @@ use borrow.Author.Count.{below-none, below-more}
 use lib.ListN.{length}
 use lib.Seq.{sets, length-sets}
 use Rattle.graph.specs.Graph.{nodeAt}
-use Rattle.graph.specs.Tables.{graphOf}
+use Rattle.graph.specs.code.Tables.{graphOf}
 use Rattle.grid.specs.declared.render_node.RenderNode.{RenderNode}
-use Rattle.grid.specs.Rendered.{renderOf, Modest, AllModest, numbersOf, Noted}
+use Rattle.grid.specs.code.Rendered.{renderOf, Modest, AllModest, numbersOf, Noted}
 use Rattle.grid.proofs.NodeLaws.{rendered-is}
 use Rattle.grid.proofs.Noted.{noted-none, noted-next}
 use borrow.Author.Needs.{needs}

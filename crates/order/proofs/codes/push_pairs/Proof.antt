@@ -6,7 +6,7 @@ use mathlib.Core.Path.{_≡_, refl, ap, _∙_}
 use lib.Seq.{sets}
 use Rattle.laws.specs.Lists.{tabulate}
 use Rattle.laws.proofs.Lists.{sets-next}
-use Rattle.order.specs.Codes.{pairCode}
+use Rattle.order.specs.code.Codes.{pairCode}
 use borrow.Author.Needs.{needs}
 use Rattle.order.proofs.codes.push_pairs.Statement.{statement}
 use Rattle.order.proofs.codes.push_pairs.Tie as tie

@@ -4,13 +4,13 @@ use Prim.Native.Nat.{ℕ, _-_}
 use mathlib.Core.Path.{_≡_, _∙_, ap}
 use mathlib.Core.List.{List, _++_}
 use Rattle.graph.specs.Shape.{Shape}
-use Rattle.order.specs.Sums.{keysAfter, Codes, Weighed}
+use Rattle.order.specs.code.Sums.{keysAfter, Codes, Weighed}
 use Rattle.order.proofs.Start.{coded}
 use Rattle.order.specs.Chains.{columns}
 use lib.ListN.{length, replicate, length-replicate}
 use Rattle.order.specs.declared.chains.Held.{Held}
-use Rattle.order.specs.Held.{laidFirst, laidOf}
-use Rattle.order.specs.Keys.{heldAfter}
+use Rattle.order.specs.code.Held.{laidFirst, laidOf}
+use Rattle.order.specs.code.Keys.{heldAfter}
 use Rattle.order.proofs.Whole.{keysOf, heldOf, startsOf, few-at, keyed-at, fit-at, ready-at, inside-at, columns-at, each-at}
 use borrow.Author.Needs.{needs}
 use Rattle.order.proofs.columns.first_columns.Statement.{statement}

@@ -6,7 +6,7 @@ use native.Mathlib.Numerals.{add-one}
 use mathlib.Core.Logic.{⊎-elim}
 use mathlib.Core.Path.{_≡_, sym, ap, _∙_}
 use lib.ListN.{getD}
-use Rattle.order.specs.Sums.{pairAt, at, raised, wayOf, Over}
+use Rattle.order.specs.code.Sums.{pairAt, at, raised, wayOf, Over}
 use Rattle.order.proofs.InPlace.{Going, over-sum, over-stores, over-out, over-missing, over-step, over-start, over-none}
 use Rattle.order.proofs.Triangle.{row-le, pair-below}
 use borrow.Author.Needs.{needs}

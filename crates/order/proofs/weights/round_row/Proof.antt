@@ -3,7 +3,7 @@
 use Prim.Native.Nat.{ℕ, suc, _-_, _<_, _≤_}
 use native.Mathlib.Omega.{arith}
 use mathlib.Core.Path.{_≡_, subst}
-use Rattle.order.specs.Sums.{Row}
+use Rattle.order.specs.code.Sums.{Row}
 use Rattle.order.proofs.InPlace.{row-start, row-step, row-fits}
 use borrow.Author.Needs.{needs}
 use Rattle.order.proofs.weights.round_row.Statement.{statement}

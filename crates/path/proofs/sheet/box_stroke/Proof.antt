@@ -4,7 +4,7 @@ use Prim.Native.Nat.{ℕ, zero, suc, _<_}
 use native.Mathlib.Omega.{arith}
 use Rattle.grid.specs.declared.BoxRecord.{BoxRecord}
 use Rattle.path.specs.declared.stroke.Stroke.the-variants.{Close}
-use Rattle.path.specs.Strokes.{boxStroke}
+use Rattle.path.specs.code.Strokes.{boxStroke}
 use Rattle.path.proofs.Sheets.{box-in}
 use Rattle.path.proofs.sheet.box_stroke.Statement.{statement}
 use Rattle.path.proofs.sheet.box_stroke.Tie as tie

@@ -4,7 +4,7 @@ use Prim.Native.Nat.{ℕ, zero, suc, _+_}
 use native.Mathlib.Omega.{arith}
 use Rattle.grid.specs.declared.Curve.{Curve}
 use Rattle.path.specs.declared.stroke.Stroke.the-variants.{Curve as curve}
-use Rattle.path.specs.Strokes.{curveStroke}
+use Rattle.path.specs.code.Strokes.{curveStroke}
 use Rattle.path.proofs.Sheets.{curve-in}
 use Rattle.path.proofs.sheet.curve_stroke.Statement.{statement}
 use Rattle.path.proofs.sheet.curve_stroke.Tie as tie

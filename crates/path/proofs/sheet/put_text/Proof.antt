@@ -9,7 +9,7 @@ use lib.Seq.{take-length}
 use Rattle.path.specs.Text.{textOf}
 use Rattle.path.specs.Segments.{drawnOf}
 use Rattle.path.specs.Writer.{IsPut, put}
-use Rattle.path.specs.Strokes.{IsStroke, sizeOf, nextText}
+use Rattle.path.specs.code.Strokes.{IsStroke, sizeOf, nextText}
 use Rattle.laws.proofs.Lists.{mapped-long}
 use Rattle.path.proofs.Sheets.{Sound, sound-is, drawn-long, box-room, curve-room, parts-near, parts-are, text-to, fits-to}
 use Rattle.path.proofs.Puts.{then, put-long, put-as}

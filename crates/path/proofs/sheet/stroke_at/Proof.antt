@@ -5,7 +5,7 @@ use native.Mathlib.Omega.{arith}
 use lib.ListN.{length}
 use borrow.Author.Tests.{lt-ltb, le-ltb}
 use Rattle.laws.proofs.Lists.{mapped-long}
-use Rattle.path.specs.Strokes.{sizeOf}
+use Rattle.path.specs.code.Strokes.{sizeOf}
 use Rattle.path.proofs.Sheets.{Sound, sound-is, drawn-long, box-near, curve-near, stroke-is}
 use borrow.Author.Needs.{needs}
 use Rattle.path.proofs.sheet.stroke_at.Statement.{statement}

@@ -1,7 +1,7 @@
 -- `stroke::drawn_of` meets its contract: each sum fits, since the positions are in reach. Assumes nothing.
 use mathlib.Core.Path.{subst}
 use native.Mathlib.Omega.{arith}
-use Rattle.path.specs.Strokes.{InReach}
+use Rattle.path.specs.code.Strokes.{InReach}
 use borrow.Author.Needs.{needs}
 use Rattle.path.proofs.stroke.drawn_of.Statement.{statement}
 use Rattle.path.proofs.stroke.drawn_of.Tie as tie

@@ -1,6 +1,6 @@
 -- `stroke::pens_of` meets its contract. Assumes nothing.
 use mathlib.Core.Path.{subst}
-use Rattle.path.specs.Strokes.{InReach}
+use Rattle.path.specs.code.Strokes.{InReach}
 use borrow.Author.Needs.{needs}
 use Rattle.path.proofs.stroke.pens_of.Statement.{statement}
 use Rattle.path.proofs.stroke.pens_of.Tie as tie

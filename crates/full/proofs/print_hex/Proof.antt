@@ -1,0 +1,44 @@
+-- `print_hex`: as many bytes as were decoded.
+-- Assumes nothing.
+use mathlib.Core.Path.{sym}
+use lib.Seq.{length-take-le}
+use borrow.Author.Needs.{needs}
+use Rattle.full.proofs.print_hex.Statement.{statement}
+use Rattle.full.proofs.print_hex.Tie as tie
+
+slice-aggregate-decode : tie.Need-slice-aggregate-decode
+slice-aggregate-decode c = search needs
+
+decode-requires : tie.Need-decode-requires
+decode-requires c κs = search needs
+
+array-share-prefix-chart : tie.Need-array-share-prefix-chart
+array-share-prefix-chart c = search needs
+
+slice-aggregate-print-chart : tie.Need-slice-aggregate-print-chart
+slice-aggregate-print-chart c = sym (length-take-le _ _ (c .before .before .decode .ensures .1 .1))
+
+print-chart-requires : tie.Need-print-chart-requires
+print-chart-requires c κs = search needs
+
+slice-aggregate-put : tie.Need-slice-aggregate-put
+slice-aggregate-put c = search needs
+
+put-requires : tie.Need-put-requires
+put-requires c κs = search needs
+
+returns : tie.Need-returns
+returns c = search needs
+
+pub print-hex-spec : {M : Type 1} → statement M
+print-hex-spec =
+    tie.close
+    (tie.spec
+    slice-aggregate-decode
+    decode-requires
+    array-share-prefix-chart
+    slice-aggregate-print-chart
+    print-chart-requires
+    slice-aggregate-put
+    put-requires
+    returns)

@@ -1,0 +1,5 @@
+-- What the code's arrays hold and its steps answer: cited by private functions alone. No public contract reaches it, so a buyer need not believe it.
+pub mod Explore
+pub mod Graphs
+pub mod Path
+pub mod Tables
