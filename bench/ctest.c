@@ -1,6 +1,6 @@
-/* The functions for C, each called on every chart of a list. Standard input: charts, one hexadecimal line each.
-   Standard output: the listing of each and an empty line, as the program `replay` prints it. A check that fails is said
-   on standard error, with exit status 1; else that has one line, how many charts there were. */
+/* The functions for C, each called on every chart of a list; compiled as C and as C++. Standard input: charts, one hexadecimal
+   line each. Standard output: the listing of each with its labels and curves and an empty line, as the program `full` prints it.
+   A check that fails is said on standard error, with exit status 1; else that has one line, how many charts there were. */
 #include <stdio.h>
 #include <stdlib.h>
 #include <string.h>
@@ -65,6 +65,14 @@ static int refused_label(margalhosa_label_result l, uint32_t number, uint32_t se
 
 static int refused_part(margalhosa_part_result p, uint32_t number, uint32_t second) {
     return p.refused == number && p.second == second && !(p.fixed | p.at | p.len);
+}
+
+static int same_label(margalhosa_label_result a, margalhosa_label_result b) {
+    return a.refused == b.refused && a.second == b.second && a.x == b.x && a.y == b.y && a.size == b.size && a.width == b.width;
+}
+
+static int same_part(margalhosa_part_result a, margalhosa_part_result b) {
+    return a.refused == b.refused && a.second == b.second && a.fixed == b.fixed && a.at == b.at && a.len == b.len;
 }
 
 /* Neither call finds the label: the refusal's two numbers. */
@@ -156,33 +164,60 @@ static uint32_t given_texts(const uint8_t *chart, uint32_t k, size_t begin[], ui
     return many;
 }
 
+/* The table with one wrong byte, each time another. */
+static const uint8_t *wrong_table(void) {
+    static uint8_t wrong[MARGALHOSA_TABLE_LENGTH];
+    static size_t place;
+    memcpy(wrong, table, sizeof wrong);
+    wrong[place++ % sizeof wrong] ^= 1;
+    return wrong;
+}
+
+/* Label i of box k: its line; its text as a part. At the sheet's last origin it is the same. */
+static margalhosa_part_result label(const uint8_t *chart, size_t n, margalhosa_sheet_record s, uint32_t k, uint32_t i) {
+    const size_t size = MARGALHOSA_TABLE_LENGTH;
+    uint32_t x = LIMIT - s.width, y = LIMIT - s.height;
+    margalhosa_label_result l = margalhosa_label_place(chart, n, 0, 0, table, size, k, i);
+    margalhosa_part_result p = margalhosa_label_part(chart, n, 0, 0, table, size, k, i);
+    need(l.refused == 0 && l.second == 0 && p.refused == 0 && p.second == 0, "a label is there");
+    need((uint64_t)p.at + p.len <= (p.fixed ? size : n), "a label's text is a part");
+    const uint8_t *part = (p.fixed ? table : chart) + p.at;
+    printf("text %u %u %u %u %u %u %.*s\n", k, i, l.x, l.y, l.size, l.width, (int)p.len, (const char *)part);
+    need(same_label(margalhosa_label_place(chart, n, x, y, table, size, k, i), l), "the origin is not added to a label");
+    need(same_part(margalhosa_label_part(chart, n, x, y, table, size, k, i), p), "a label's text at another origin");
+    need(no_label(chart, n, 0, table, size - 1, k, i, 15, 0), "a table that isn't the fixed texts: 15");
+    need(no_label(chart, n, 0, wrong_table(), size, k, i, 15, 0), "a table with one wrong byte: 15");
+    return p;
+}
+
+/* The labels of given node k are its texts in the chart; how many. */
+static uint32_t given_labels(const uint8_t *chart, size_t n, margalhosa_sheet_record s, uint32_t k) {
+    size_t begin[68];
+    uint32_t length[68], many = given_texts(chart, k, begin, length);
+    for (uint32_t i = 0; i < many; i++) {
+        margalhosa_part_result p = label(chart, n, s, k, i);
+        need(p.fixed == 0 && p.at == begin[i] && p.len == length[i], "a given node's label is its text in the chart");
+    }
+    return many;
+}
+
+/* An inserted node has one label, a fixed text. */
+static uint32_t inserted_label(const uint8_t *chart, size_t n, margalhosa_sheet_record s, uint32_t k) {
+    need(label(chart, n, s, k, 0).fixed == 1, "an inserted node's label is a fixed text");
+    return 1;
+}
+
 static void check_labels(const uint8_t *chart, size_t n, margalhosa_sheet_record s) {
     const size_t size = MARGALHOSA_TABLE_LENGTH;
     for (uint32_t k = 0; k < s.count; k++) {
-        size_t begin[68];
-        uint32_t length[68], given = k < chart[1], many = given ? given_texts(chart, k, begin, length) : 1;
-        for (uint32_t i = 0; i < many; i++) {
-            margalhosa_label_result l = margalhosa_label_place(chart, n, 0, 0, table, size, k, i);
-            margalhosa_part_result p = margalhosa_label_part(chart, n, 0, 0, table, size, k, i);
-            need(l.refused == 0 && l.second == 0 && p.refused == 0 && p.second == 0, "a label is there");
-            need((uint64_t)p.at + p.len <= (p.fixed ? size : n), "a label's text is a part");
-            const uint8_t *part = (p.fixed ? table : chart) + p.at;
-            for (uint32_t b = 0; b < p.len; b++) need(part[b] >= 32 && part[b] <= 126, "a label's text is printable");
-            if (given)
-                need(p.fixed == 0 && p.at == begin[i] && p.len == length[i], "a given node's label is its text in the chart");
-            else
-                need(p.fixed == 1 && part[0] == '#' && (uint32_t)atoi((const char *)part + 1) < chart[1] && p.len == (p.at < 20 ? 2 : 3),
-                     "an inserted node's label is a fixed text");
-            need((l.size == 464 && l.width == 256 * p.len) || (l.size == 232 && l.width == 128 * p.len), "a label's size and width");
-            need(no_label(chart, n, 0, table, size - 1, k, i, 15, 0), "a table that isn't the fixed texts: 15");
-        }
+        uint32_t many = k < chart[1] ? given_labels(chart, n, s, k) : inserted_label(chart, n, s, k);
         need(no_label(chart, n, 0, table, size, k, many, 15, 0), "a label that isn't there: 15");
     }
     need(no_label(chart, n, 0, table, size, s.count, 0, 15, 0), "a label of a box that isn't there: 15");
     need(no_label(chart, n, 0, table, size, UINT32_MAX, UINT32_MAX, 15, 0), "the largest label number: 15");
 }
 
-/* A sheet built by a caller. */
+/* A sheet built by a caller that is refused. */
 static void check_built(margalhosa_sheet_record s) {
     static uint8_t buffer[TEXT];
     mark(buffer, TEXT);
@@ -191,11 +226,58 @@ static void check_built(margalhosa_sheet_record s) {
     need(counted(margalhosa_text(s, buffer, TEXT), 14, 0, 0) && marked(buffer, TEXT), "a built sheet's text: 14");
 }
 
+/* A sheet built by a caller that is accepted: one box, and two curves whose halfway heights have `.5`, down to the last position.
+   Its size, columns, rows and cuts are not looked at. */
+static void check_accepted(void) {
+    static const char expected[] = "M 101 8388602 L 104 8388602 L 104 8388606 L 101 8388606 Z"
+                                   " M 102 8388603 C 102 8388605.5 8388608 8388605.5 8388608 8388608"
+                                   " M 100 8388607 C 100 8388607.5 105 8388607.5 105 8388608";
+    static const margalhosa_box_record box = {1, 2, 3, 4, 255, 255};
+    static const margalhosa_curve long_one = {2, 3, LIMIT - 100, 8}, short_one = {0, 7, 5, 8};
+    static uint8_t text[TEXT];
+    margalhosa_sheet_record s;
+    memset(&s, MARK, sizeof s);
+    s.x = 100;
+    s.y = LIMIT - 8;
+    s.count = 1;
+    s.drawn = 2;
+    s.boxes[0] = box;
+    s.curves[0] = long_one;
+    s.curves[1] = short_one;
+    margalhosa_box_result b = margalhosa_box(s, 0);
+    need(b.refused == 0 && b.second == 0 && same_box(b.place, box), "a built sheet's box");
+    need(refused_box(margalhosa_box(s, 1), 15), "a box that a built sheet doesn't have: 15");
+    size_t n = check_text(s, text);
+    need(n == strlen(expected) && memcmp(text, expected, n) == 0, "a built sheet's text");
+    check_segments(s, text, n);
+    margalhosa_segment_result g = margalhosa_segment(s, 6);
+    need(at(g.control0, 102, 8388605.5f) && at(g.control1, 8388608, 8388605.5f) && at(g.to, 8388608, 8388608), "a height of a half");
+    s.y++;
+    check_built(s);
+}
+
+/* The segments of a sheet at another origin are those at 0 0, moved. */
+static void check_moved(margalhosa_sheet_record s, margalhosa_sheet_record there) {
+    float x = (float)there.x, y = (float)there.y;
+    for (uint32_t k = 0; k < 5u * s.count + 2u * s.drawn; k++) {
+        margalhosa_segment_result g = margalhosa_segment(s, k), h = margalhosa_segment(there, k);
+        need(h.kind == g.kind, "a moved segment's kind");
+        need(g.kind == MARGALHOSA_CLOSE || at(h.to, g.to.x + x, g.to.y + y), "a moved segment's end");
+        need(g.kind != MARGALHOSA_CUBIC || (at(h.control0, g.control0.x + x, g.control0.y + y) && at(h.control1, g.control1.x + x, g.control1.y + y)),
+             "a moved segment's controls");
+    }
+}
+
 static void check_origin(const uint8_t *chart, size_t n, margalhosa_sheet_record s) {
+    static uint8_t text[TEXT];
     uint32_t x = LIMIT - s.width, y = LIMIT - s.height;
     margalhosa_sheet_result r = margalhosa_sheet(chart, n, x, y);
-    need(r.refused == 0 && r.sheet.x == x && r.sheet.y == y && r.sheet.count == s.count, "a sheet at the last origin");
+    need(r.refused == 0 && r.sheet.x == x && r.sheet.y == y && r.sheet.count == s.count && r.sheet.drawn == s.drawn, "a sheet at the last origin");
     for (uint32_t k = 0; k < s.count; k++) need(same_box(r.sheet.boxes[k], s.boxes[k]), "the origin is not added to a box");
+    size_t size = check_text(r.sheet, text);
+    need(size <= MARGALHOSA_TEXT_MOST, "the longest text");
+    check_segments(r.sheet, text, size);
+    check_moved(s, r.sheet);
     r = margalhosa_sheet(chart, n, x + 1, y);
     need(r.refused == 14 && r.second == 0 && no_sheet(&r.sheet), "an origin too far across: 14");
     r = margalhosa_sheet(chart, n, x, UINT32_MAX);
@@ -204,6 +286,13 @@ static void check_origin(const uint8_t *chart, size_t n, margalhosa_sheet_record
 }
 
 /* ---- a chart's listing */
+static void print_curves(margalhosa_sheet_record s) {
+    for (uint32_t k = 0; k < s.drawn; k++) {
+        margalhosa_curve c = s.curves[k];
+        printf("curve %u %u %u %u %u\n", k, c.x0, c.y0, c.x1, c.y1);
+    }
+}
+
 static void drawn(const uint8_t *chart, size_t n, margalhosa_sheet_record s) {
     static uint8_t text[TEXT];
     printf("sheet %u %u %u %u %u %u\n", s.columns, s.rows, s.width, s.height, s.count, s.cuts);
@@ -217,6 +306,7 @@ static void drawn(const uint8_t *chart, size_t n, margalhosa_sheet_record s) {
     printf("path%s%.*s\n", size > 0 ? " " : "", (int)size, (const char *)text);
     check_segments(s, text, size);
     check_labels(chart, n, s);
+    print_curves(s);
     check_origin(chart, n, s);
     margalhosa_sheet_record wrong = s;
     wrong.count = 49;
@@ -277,6 +367,7 @@ int main(void) {
     check_reader("M 1", 17, 3);
     check_reader("M 8388609 1", 18, 2);
     check_reader("Z", 19, 0);
+    check_accepted();
     while (next_chart(chart, &n)) {
         margalhosa_sheet_result r = margalhosa_sheet(chart, n, 0, 0);
         if (r.refused == 0) {

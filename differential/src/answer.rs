@@ -79,8 +79,27 @@ fn segment(out: &mut String, letter: char, numbers: &[u64]) {
     }
 }
 
+/// A box with its column and row.
+type Placed<'a> = (usize, usize, &'a RenderNode<Node>);
+
+/// The output point of each curve and its input point, from the Rust's points
+/// in module 9's order: per box, per input point.
+fn curves(boxes: &[Placed]) -> impl Iterator<Item = ((i32, i32), (i32, i32))> {
+    boxes.iter().flat_map(move |(_, _, node)| {
+        let inputs = node.input_points.iter();
+        inputs.filter_map(move |(input, source, mark)| {
+            let outputs = &boxes[source.inx()].2.output_points;
+            let output = match mark {
+                Some(mark) => Some(outputs[*mark].0),
+                None => outputs.iter().find(|o| o.1 == node.ptr).map(|o| o.0),
+            };
+            output.map(|output| (output, *input))
+        })
+    })
+}
+
 /// Document 01, module 9, on the Rust's boxes and points.
-pub fn path(boxes: &[(usize, usize, &RenderNode<Node>)], x: u32, y: u32) -> String {
+pub fn path(boxes: &[Placed], x: u32, y: u32) -> String {
     let place = |(px, py): (i32, i32)| (2 * (px as u64 + x as u64), 2 * (py as u64 + y as u64));
     let mut out = String::new();
     for (_, _, node) in boxes {
@@ -94,32 +113,34 @@ pub fn path(boxes: &[(usize, usize, &RenderNode<Node>)], x: u32, y: u32) -> Stri
             segment(&mut out, 'Z', &[]);
         }
     }
-    for (_, _, node) in boxes {
-        for (input, source, mark) in &node.input_points {
-            let outputs = &boxes[source.inx()].2.output_points;
-            let output = match mark {
-                Some(mark) => Some(outputs[*mark].0),
-                None => outputs.iter().find(|o| o.1 == node.ptr).map(|o| o.0),
-            };
-            if let Some(output) = output {
-                let (ox, oy) = place(output);
-                let (ix, iy) = place(*input);
-                let half = (oy + iy) / 2;
-                segment(&mut out, 'M', &[ox, oy]);
-                segment(&mut out, 'C', &[ox, half, ix, half, ix, iy]);
-            }
-        }
+    for (output, input) in curves(boxes) {
+        let (ox, oy) = place(output);
+        let (ix, iy) = place(input);
+        let half = (oy + iy) / 2;
+        segment(&mut out, 'M', &[ox, oy]);
+        segment(&mut out, 'C', &[ox, half, ix, half, ix, iy]);
     }
     out
 }
 
-/// Texts, input points and output points of every box.
-fn details(boxes: &[(usize, usize, &RenderNode<Node>)]) -> String {
+/// Texts of every box, and the two ends of every curve.
+fn labels(boxes: &[Placed]) -> String {
     let mut out = String::new();
     for (k, (_, _, node)) in boxes.iter().enumerate() {
         for (i, ((x, y), size, width, s)) in node.text.iter().enumerate() {
             out += &format!("text {k} {i} {x} {y} {size} {width} {s}\n");
         }
+    }
+    for (k, ((x0, y0), (x1, y1))) in curves(boxes).enumerate() {
+        out += &format!("curve {k} {x0} {y0} {x1} {y1}\n");
+    }
+    out
+}
+
+/// Input points and output points of every box.
+fn points(boxes: &[Placed]) -> String {
+    let mut out = String::new();
+    for (k, (_, _, node)) in boxes.iter().enumerate() {
         for (i, ((x, y), source, mark)) in node.input_points.iter().enumerate() {
             let mark = mark.map_or("-".to_string(), |mark| mark.to_string());
             out += &format!("in {k} {i} {x} {y} {} {mark}\n", source.inx());
@@ -132,7 +153,7 @@ fn details(boxes: &[(usize, usize, &RenderNode<Node>)]) -> String {
 }
 
 /// The boxes by number, each with its column and row.
-pub fn boxes(grid: &RenderGrid<Node>) -> Vec<(usize, usize, &RenderNode<Node>)> {
+pub fn boxes(grid: &RenderGrid<Node>) -> Vec<Placed<'_>> {
     let mut boxes = vec![];
     for (column, cells) in grid.grid.iter().enumerate() {
         for (row, cell) in cells.iter().enumerate() {
@@ -170,7 +191,10 @@ fn sheet(grid: &RenderGrid<Node>, n: usize, asked: Asked) -> String {
     out += &path;
     out += "\n";
     if asked.full {
-        out += &details(&boxes);
+        out += &labels(&boxes);
+    }
+    if asked.points {
+        out += &points(&boxes);
     }
     out
 }

@@ -243,8 +243,10 @@ pub fn listed(chart: &[u8]) -> &[u8] {
 /// What the listing programs are asked for.
 #[derive(Clone, Copy, Default)]
 pub struct Asked {
-    /// Texts, input points and output points too.
+    /// Texts and the ends of curves too.
     pub full: bool,
+    /// Input points and output points too.
+    pub points: bool,
     pub x: u32,
     pub y: u32,
 }

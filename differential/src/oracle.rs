@@ -2,9 +2,10 @@
 
 use chart::Asked;
 
-const USAGE: &str = "oracle [--batch] [--full] [--x N] [--y N] < charts
+const USAGE: &str = "oracle [--batch] [--full] [--points] [--x N] [--y N] < charts
   one binary chart on standard input, or with --batch hex lines
-  --full   every box's texts, input points and output points too
+  --full   every box's texts and the ends of every curve too
+  --points every box's input points and output points too
   --x, --y the origin (0 0)";
 
 fn main() {
@@ -20,6 +21,10 @@ fn main() {
             }
             "--full" => {
                 asked.full = true;
+                true
+            }
+            "--points" => {
+                asked.points = true;
                 true
             }
             "--x" => number().map(|n| asked.x = n).is_some(),

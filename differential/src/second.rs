@@ -536,6 +536,22 @@ fn listing(chart: &[u8], asked: Asked) -> String {
     }
 }
 
+/// What each curve joins: the node it comes from and the sink there, the node
+/// it goes to and the source there.
+fn joined(nodes: &[Node]) -> Vec<(usize, usize, usize, usize)> {
+    let mut found = vec![];
+    for (k, node) in nodes.iter().enumerate() {
+        for (p, source) in node.sources.iter().enumerate() {
+            let c = source.target;
+            let leads = || nodes[c].sinks.iter().position(|s| s.target == k);
+            if let Some(i) = source.mark.or_else(leads) {
+                found.push((c, i, k, p));
+            }
+        }
+    }
+    found
+}
+
 /// Modules 8 and 9.
 fn sheet(layout: &Layout, asked: Asked) -> Result<String, Refusal> {
     let Layout {
@@ -582,40 +598,42 @@ fn sheet(layout: &Layout, asked: Asked) -> Result<String, Refusal> {
             "M {x} {y} L {right} {y} L {right} {bottom} L {x} {bottom} Z"
         ));
     }
-    let point = |k: usize, p: (i64, i64)| (corner(k).0 + p.0 + ox, corner(k).1 + p.1 + oy);
-    for (k, node) in nodes.iter().enumerate() {
-        for (j, source) in node.sources.iter().enumerate() {
-            let c = source.target;
-            let leads = || nodes[c].sinks.iter().position(|s| s.target == k);
-            if let Some(i) = source.mark.or_else(leads) {
-                let (ax, ay) = point(c, sized[c].outputs[i]);
-                let (bx, by) = point(k, sized[k].inputs[j]);
-                let half = (ay + by) / 2;
-                let dot = if (ay + by) % 2 == 1 { ".5" } else { "" };
-                words.push(format!(
-                    "M {ax} {ay} C {ax} {half}{dot} {bx} {half}{dot} {bx} {by}"
-                ));
-            }
-        }
+    let point = |k: usize, p: (i64, i64)| (corner(k).0 + p.0, corner(k).1 + p.1);
+    let mut curves = String::new();
+    for (j, (c, i, k, p)) in joined(nodes).into_iter().enumerate() {
+        let (ax, ay) = point(c, sized[c].outputs[i]);
+        let (bx, by) = point(k, sized[k].inputs[p]);
+        curves += &format!("curve {j} {ax} {ay} {bx} {by}\n");
+        let (ax, ay, bx, by) = (ax + ox, ay + oy, bx + ox, by + oy);
+        let half = (ay + by) / 2;
+        let dot = if (ay + by) % 2 == 1 { ".5" } else { "" };
+        words.push(format!(
+            "M {ax} {ay} C {ax} {half}{dot} {bx} {half}{dot} {bx} {by}"
+        ));
     }
     out += &words.join(" ");
     out += "\n";
     if asked.full {
-        for (k, node) in nodes.iter().enumerate() {
-            let (x, y) = corner(k);
-            for (i, (lx, ly, size, width, text)) in sized[k].labels.iter().enumerate() {
+        for (k, one) in sized.iter().enumerate() {
+            for (i, (lx, ly, size, width, text)) in one.labels.iter().enumerate() {
+                let (x, y) = point(k, (*lx, *ly));
                 let text = String::from_utf8_lossy(text);
-                out += &format!("text {k} {i} {} {} {size} {width} {text}\n", x + lx, y + ly);
+                out += &format!("text {k} {i} {x} {y} {size} {width} {text}\n");
             }
-            for (i, (px, py)) in sized[k].inputs.iter().enumerate() {
-                let source = &node.sources[i];
-                let mark = source.mark.map_or("-".to_string(), |m| m.to_string());
-                let target = source.target;
-                out += &format!("in {k} {i} {} {} {target} {mark}\n", x + px, y + py);
+        }
+        out += &curves;
+    }
+    if asked.points {
+        for (k, node) in nodes.iter().enumerate() {
+            for (i, input) in sized[k].inputs.iter().enumerate() {
+                let (x, y) = point(k, *input);
+                let Source { target, mark, .. } = &node.sources[i];
+                let mark = mark.map_or("-".to_string(), |m| m.to_string());
+                out += &format!("in {k} {i} {x} {y} {target} {mark}\n");
             }
-            for (i, (px, py)) in sized[k].outputs.iter().enumerate() {
-                let target = node.sinks[i].target;
-                out += &format!("out {k} {i} {} {} {target}\n", x + px, y + py);
+            for (i, output) in sized[k].outputs.iter().enumerate() {
+                let (x, y) = point(k, *output);
+                out += &format!("out {k} {i} {x} {y} {}\n", node.sinks[i].target);
             }
         }
     }
@@ -730,10 +748,11 @@ fn reading(text: &[u8], room: Option<usize>) -> String {
     }
 }
 
-const USAGE: &str = "second [--batch] [--full] [--x N] [--y N] [--stages] < charts
+const USAGE: &str = "second [--batch] [--full] [--points] [--x N] [--y N] [--stages] < charts
 second --path-text [--buffer N] < text
   one binary chart on standard input, or with --batch hex lines
-  --full       every box's texts, input points and output points too
+  --full       every box's texts and the ends of every curve too
+  --points     every box's input points and output points too
   --stages     instead of the listing, the stages of the layout
   --path-text  a path text on standard input: its count of segments, or its
                refusal; with --buffer read and written again into N bytes";
@@ -752,6 +771,7 @@ fn main() {
                 let flag = match flag {
                     "--batch" => Some(&mut batch),
                     "--full" => Some(&mut asked.full),
+                    "--points" => Some(&mut asked.points),
                     "--stages" => Some(&mut by_stage),
                     "--path-text" => Some(&mut path_text),
                     _ => None,
