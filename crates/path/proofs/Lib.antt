@@ -10,6 +10,7 @@ pub mod Readings
 pub mod Writings
 pub mod Derives
 pub mod Unique
+pub mod DigitBytes
 pub mod Machine
 pub mod SvgCases
 pub mod Passes

@@ -2,14 +2,14 @@
 -- Assumes nothing.
 use mathlib.Core.Path.{_≡_, refl, _∙_}
 use mathlib.Core.Logic.{inl, inr}
-use mathlib.Core.Bool.{Bool, true, false, cond, _&&_, _||_, and-eq-true-iff, false≢true}
+use mathlib.Core.Bool.{Bool, true, false, cond, _||_, false≢true}
 use mathlib.Core.List.{List, [], _∷_}
-use Prim.Native.Nat.{ℕ, _-_, _≤_, _<_}
-use native.Mathlib.Omega.{arith}
-use borrow.Author.Tests.{le-leb, lt-ltb, leb-true, ltb-true, ne-eqb}
-use lib.Dec.{eqb, leb, ltb}
+use Prim.Native.Nat.{ℕ, _-_}
+use borrow.Author.Tests.{ne-eqb}
+use lib.Dec.{eqb, ltb}
 use Rattle.path.specs.Svg as svg
-use Rattle.path.specs.Svg.{Wsp, Wsps, CommaWsp, Between, Value, Digit, Digits, Sign, Fraction, Exponent, NotDigit, NotFraction, NotInteger, Apart, Nonnegative, Number, Pair, Command, Letter, Arguments, LineArgument, HorizontalArgument, VerticalArgument, CurveArgument, SmoothArgument, QuadraticArgument, SmoothQuadraticArgument, Flag, ArcArgument, MoveTo, DrawTo, DrawTos, Group, Groups, SvgPath}
+use Rattle.path.specs.Svg.{Wsp, Wsps, CommaWsp, Between, Value, Digits, Sign, Fraction, Exponent, NotDigit, NotFraction, NotInteger, Apart, Nonnegative, Number, Pair, Command, Letter, Arguments, LineArgument, HorizontalArgument, VerticalArgument, CurveArgument, SmoothArgument, QuadraticArgument, SmoothQuadraticArgument, Flag, ArcArgument, MoveTo, DrawTo, DrawTos, Group, Groups, SvgPath}
+use Rattle.path.proofs.DigitBytes.{isDigit, digit-is, not-digit}
 
 -- ---- bytes
 pub data Token : Type 0 where
@@ -71,9 +71,6 @@ nameOf b =
 
 abbrev plainOf : ℕ → Plain
 plainOf b = cond (either b 32 9 || either b 13 10) white (cond (eqb b 44) comma (cond (either b 43 45) sign (letter (nameOf b))))
-
-abbrev pub isDigit : ℕ → Bool
-isDigit b = leb 48 b && ltb b 58
 
 abbrev laterOf : ℕ → Class
 laterOf b = cond (either b 101 69) power (cond (eqb b 46) point (plain (plainOf b)))
@@ -275,22 +272,8 @@ module _ (ts : List Token) (h : Shape) where
   between-run (svg.something c) k = comma-run c k
 
 -- ---- numbers
-pub digit-is : {b d : ℕ} → Digit b d → isDigit b ≡ true
-digit-is {b} g = rw (le-leb 48 b (omega (arith, g .is)), lt-ltb b 58 (omega (arith, g .is, g .small)))
-
-pub is-digit : {b : ℕ} → isDigit b ≡ true → Digit b (b - 48)
-is-digit {b} e =
-    let both = and-eq-true-iff (leb 48 b) (ltb b 58) .0 e in
-    let l : 48 ≤ b = leb-true 48 b (both .0) in
-    let m : b < 58 = ltb-true b 58 (both .1) in
-    record { is = omega arith; small = omega arith }
-
-not-digit : (b : ℕ) → NotDigit b → classOf b ≡ laterOf b
-not-digit b n = go (isDigit b) refl
-  where
-    go : (t : Bool) → isDigit b ≡ t → cond t (digit (ltb b 50)) (laterOf b) ≡ laterOf b
-    go true e = absurd (n .no (b - 48) (is-digit e))
-    go false e = refl
+later-is : (b : ℕ) → NotDigit b → classOf b ≡ laterOf b
+later-is b n = rw (not-digit b n)
 
 -- from p into q, where digits stay
 digits-run : {a v k : ℕ} {s r : List ℕ} (p q : State) → ((z : Bool) → step p (digit z) ≡ q) → ((z : Bool) → step q (digit z) ≡ q) → Digits a s v k r → Ok q r → Ok p s
@@ -301,7 +284,7 @@ module _ (ts : List Token) (h : Shape) where
   -- a number ends where no more of it follows
   exponent-ends : {r : List ℕ} → Apart NotDigit r → Ok (after ts h) r → Ok (exponent ts h) r
   exponent-ends svg.end (end e) = end e
-  exponent-ends (svg.byte {b = b} n) (byte k) = to (rw (not-digit b n) (go (either b 101 69) (eqb b 46))) (rw (not-digit b n) at k)
+  exponent-ends (svg.byte {b = b} n) (byte k) = to (rw (later-is b n) (go (either b 101 69) (eqb b 46))) (rw (later-is b n) at k)
     where
       go : (t u : Bool) → step (exponent ts h) (cond t power (cond u point (plain (plainOf b)))) ≡ step (after ts h) (cond t power (cond u point (plain (plainOf b))))
       go true u = refl
@@ -309,7 +292,7 @@ module _ (ts : List Token) (h : Shape) where
       go false false = refl
 
   no-power : (b : ℕ) → NotFraction b → classOf b ≡ cond (eqb b 46) point (plain (plainOf b))
-  no-power b n = not-digit b (n .noDigit) ∙ rw (ne-eqb b 101 (n .noSmall), ne-eqb b 69 (n .noLarge))
+  no-power b n = later-is b (n .noDigit) ∙ rw (ne-eqb b 101 (n .noSmall), ne-eqb b 69 (n .noLarge))
 
   fraction-ends : {r : List ℕ} → Apart NotFraction r → Ok (after ts h) r → Ok (fraction ts h) r
   fraction-ends svg.end (end e) = end e

@@ -12,7 +12,8 @@ use Rattle.laws.specs.Lists.{All}
 use Rattle.path.specs.Svg as svg
 use Rattle.path.specs.Svg.{Wsps, Between, Value, Digits, NotDigit, NotFraction, NotInteger, Apart, Nonnegative, signed, Number, Pair, Command, moveTo, MoveTo, DrawTos, SvgPath}
 use Rattle.path.specs.SvgCases.{whole, derive, AllDerive, underived, NoneDerives}
-use Rattle.path.proofs.Machine.{either, isDigit, digit-is, is-digit, accepts, derived-accepted}
+use Rattle.path.proofs.DigitBytes.{isDigit, digit-is, is-digit}
+use Rattle.path.proofs.Machine.{either, accepts, derived-accepted}
 
 -- ---- none of these derives
 -- the machine refuses the text
@@ -37,8 +38,8 @@ inFraction b = isDigit b || either b 101 69
 abbrev inInteger : ℕ → Bool
 inInteger b = inFraction b || eqb b 46
 
-not-digit : {b : ℕ} → isDigit b ≡ false → NotDigit b
-not-digit e = record { no = λ d g. false≢true (sym e ∙ digit-is g) }
+no-digit : {b : ℕ} → isDigit b ≡ false → NotDigit b
+no-digit e = record { no = λ d g. false≢true (sym e ∙ digit-is g) }
 
 -- both tests fail
 neither : (s t : Bool) → (s || t) ≡ false → (s ≡ false) × (t ≡ false)
@@ -49,7 +50,7 @@ not-fraction : {b : ℕ} → inFraction b ≡ false → NotFraction b
 not-fraction {b} e =
     let f = neither (isDigit b) (either b 101 69) e in
     let g = neither (eqb b 101) (eqb b 69) (f .1) in
-    record { noDigit = not-digit (f .0); noSmall = eqb-false b 101 (g .0); noLarge = eqb-false b 69 (g .1) }
+    record { noDigit = no-digit (f .0); noSmall = eqb-false b 101 (g .0); noLarge = eqb-false b 69 (g .1) }
 
 not-integer : {b : ℕ} → inInteger b ≡ false → NotInteger b
 not-integer {b} e =
@@ -66,7 +67,7 @@ apart f P h [] e = svg.end
 apart f P h (b ∷ r) e = svg.byte (h b (not-true (f b) e))
 
 end-digits : {r : List ℕ} → ends isDigit r ≡ true → Apart NotDigit r
-end-digits {r} e = apart isDigit NotDigit (λ b f. not-digit f) r e
+end-digits {r} e = apart isDigit NotDigit (λ b f. no-digit f) r e
 
 end-fraction : {r : List ℕ} → ends inFraction r ≡ true → Apart NotFraction r
 end-fraction {r} e = apart inFraction NotFraction (λ b f. not-fraction f) r e

@@ -1,14 +1,15 @@
 -- One text, one reading: SVG's grammar gives a text at most one list of commands. Assumes nothing.
 use mathlib.Core.Path.{_≡_, refl, sym, ap, _∙_, subst}
 use mathlib.Core.Logic.{_⊎_, inl, inr}
-use mathlib.Core.Bool.{Bool, true, false, cond, _&&_, _||_}
+use mathlib.Core.Bool.{Bool, true, false, cond, _||_}
 use mathlib.Core.List.{List, [], _∷_}
 use Prim.Native.Nat.{ℕ, suc, _+_, _-_, _*_, _^_, _≤_, _<_}
 use native.Mathlib.Omega.{arith}
-use borrow.Author.Tests.{le-leb, lt-ltb, leb-true, ltb-true, ne-eqb}
-use lib.Dec.{eqb, leb, ltb}
+use borrow.Author.Tests.{ne-eqb}
+use lib.Dec.{eqb}
 use Rattle.path.specs.Svg as svg
 use Rattle.path.specs.Svg.{Wsp, Wsps, CommaWsp, Between, Value, Digit, Digits, Sign, Fraction, Exponent, NotDigit, NotFraction, NotInteger, Apart, scaled, Nonnegative, signed, Number, Pair, Command, moveTo, lineTo, smoothQuadratic, horizontal, vertical, curveTo, smoothCurve, quadratic, arc, closePath, Letter, Arguments, LineArgument, HorizontalArgument, VerticalArgument, CurveArgument, SmoothArgument, QuadraticArgument, SmoothQuadraticArgument, Flag, ArcArgument, MoveTo, DrawTo, DrawTos, Group, Groups, SvgPath}
+use Rattle.path.proofs.DigitBytes.{isDigit, digit-is, not-digit}
 
 -- the first byte
 abbrev Head : (ℕ → Type 0) → List ℕ → Type 0
@@ -88,9 +89,6 @@ between-past {t = t} svg.nothing h = ap past (skip-solid t (head-map Start Solid
 between-past (svg.something c) h = comma-past c h
 
 -- ---- digits: as many as there are
-abbrev isDigit : ℕ → Bool
-isDigit b = leb 48 b && ltb b 58
-
 record Taken : Type 0 where
   value : ℕ
   count : ℕ
@@ -104,20 +102,8 @@ unfoldable taken : ℕ → List ℕ → Taken
 taken a [] = record { value = a; count = 0; rest = [] }
 taken a (b ∷ s) = takeIf (isDigit b) (taken (10 * a + (b - 48)) s) (record { value = a; count = 0; rest = b ∷ s })
 
-digit-is : {b d : ℕ} → Digit b d → (isDigit b ≡ true) × (b - 48 ≡ d) × Low b
-digit-is {b} {d} g =
-    (rw (le-leb 48 b (omega (arith, g .is)), lt-ltb b 58 (omega (arith, g .is, g .small))), omega (arith, g .is), (omega (arith, g .is), omega (arith, g .is, g .small)))
-
-not-digit : (b : ℕ) → NotDigit b → isDigit b ≡ false
-not-digit b n = go (leb 48 b) (ltb b 58) refl refl
-  where
-    go : (t u : Bool) → leb 48 b ≡ t → ltb b 58 ≡ u → (t && u) ≡ false
-    go true true e f =
-        let l : 48 ≤ b = leb-true 48 b e in
-        let m : b < 58 = ltb-true b 58 f in
-        absurd (n .no (b - 48) (record { is = omega arith; small = omega arith }))
-    go true false e f = refl
-    go false u e f = refl
+digit-low : {b d : ℕ} → Digit b d → (b - 48 ≡ d) × Low b
+digit-low g = (omega (arith, g .is), (omega (arith, g .is), omega (arith, g .is, g .small)))
 
 taken-none : (a : ℕ) (r : List ℕ) → Apart NotDigit r → taken a r ≡ record { value = a; count = 0; rest = r }
 unfolding taken
@@ -126,12 +112,12 @@ taken-none a r (svg.byte {b = b} n) = rw (not-digit b n)
 
 taken-is : {a v k : ℕ} {s r : List ℕ} → Digits a s v k r → Apart NotDigit r → taken a s ≡ record { value = v; count = k; rest = r }
 unfolding taken
-taken-is {a} {v} {k} {s} {r} (svg.one {d = d} g) p = let i = digit-is g in rw (i .0, i .1, taken-none (10 * a + d) r p)
-taken-is (svg.more g f) p = let i = digit-is g in rw (i .0, i .1, taken-is f p)
+taken-is {a} {v} {k} {s} {r} (svg.one {d = d} g) p = rw (digit-is g, digit-low g .0, taken-none (10 * a + d) r p)
+taken-is (svg.more g f) p = rw (digit-is g, digit-low g .0, taken-is f p)
 
 digits-low : {a v k : ℕ} {s r : List ℕ} → Digits a s v k r → Head Low s
-digits-low (svg.one g) = digit-is g .2
-digits-low (svg.more g f) = digit-is g .2
+digits-low (svg.one g) = digit-low g .1
+digits-low (svg.more g f) = digit-low g .1
 
 point-apart : {r : List ℕ} → Apart NotDigit (46 ∷ r)
 point-apart = svg.byte {b = 46} (record { no = λ d e. omega (arith, e .is) })

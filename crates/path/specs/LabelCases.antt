@@ -1,9 +1,9 @@
 -- Labels through the whole definition, from the chart's bytes: what both calls answer. One table, one computed test. The numbers are the Rust's.
 -- Assumes nothing.
-use Prim.Native.Nat.{ℕ, _-_}
+use Prim.Native.Nat.{ℕ, _+_, _-_}
 use Prim.Native.String.{String}
 use mathlib.Core.Path.{_≡_, refl}
-use mathlib.Core.Bool.{Bool, true, _&&_}
+use mathlib.Core.Bool.{Bool, true, cond, _&&_}
 use mathlib.Core.List.{List, [], _∷_}
 use lib.ListN.{take, drop}
 use Rattle.laws.specs.Bytes.{ascii, hex, allOf, same}
@@ -25,8 +25,9 @@ use Rattle.grid.specs.RenderGrid.{sheetOf, sheet}
 use Rattle.grid.specs.Sheeted.{sheetOfDag, sheeted}
 use Rattle.grid.specs.Labelled.{Labelled, labelled}
 use Rattle.path.specs.declared.LabelAnswer.{LabelAnswer}
+use Rattle.path.specs.declared.LabelSpan.{LabelSpan}
 use Rattle.path.specs.Number.{digits}
-use Rattle.path.specs.Label.{Place, chart, table, standInsTo, standIns, labelAnswerOf, labelPartOf}
+use Rattle.path.specs.Label.{Place, chart, table, standInsTo, standIns, labelAnswerOf, labelPartOf, labelSpanOf}
 
 -- 0 0 or the refusal's two numbers, then place, size and width
 abbrev numbersBy : Answer → List ℕ → List ℕ
@@ -41,6 +42,10 @@ abbrev spot : Place → List ℕ
 spot (chart a e) = 0 ∷ a ∷ e ∷ []
 spot (table a e) = 1 ∷ a ∷ e ∷ []
 
+-- the same of a span
+abbrev spanSpot : LabelSpan → List ℕ
+spanSpot r = cond (r .fixed) 1 0 ∷ r .at ∷ (r .at + r .len) ∷ []
+
 -- what stands there
 abbrev textAt : List ℕ → List ℕ → Place → List ℕ
 textAt s t (chart a e) = take (e - a) (drop a s)
@@ -51,7 +56,9 @@ data Case : Type 0 where
   is : String → ℕ → ℕ → String → ℕ → ℕ → List ℕ → List ℕ → String → Case
 
 abbrev agree : List ℕ → List ℕ → Labelled → List ℕ → List ℕ → String → Bool
-agree s t l ns ps w = same (numbers (labelAnswerOf t l)) ns && (same (spot (labelPartOf t l)) ps && same (textAt s t (labelPartOf t l)) (ascii w))
+agree s t l ns ps w =
+    same (numbers (labelAnswerOf t l)) ns
+    && (same (spot (labelPartOf t l)) ps && (same (spanSpot (labelSpanOf t l)) ps && same (textAt s t (labelPartOf t l)) (ascii w)))
 
 holds : Case → Bool
 holds (is s x y t k i ns ps w) = agree (hex s) (ascii t) (labelled (hex s) x y k i) ns ps w
