@@ -31,6 +31,8 @@ def read(chart):
         part, after = text(at + 1)
         return (target,) + part, after
 
+    if not chart:
+        return 0, [], [], []
     if len(chart) < 2:
         raise Refused(1, 0)
     if chart[0] != 1:

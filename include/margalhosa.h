@@ -5,6 +5,9 @@
    are the refusals of document 01. In each result `refused` is the refusal's number, 0 if nothing is refused, and
    `second` its second number. The functions keep nothing between calls and write nothing but the lent buffer.
 
+   A chart of length 0, as a board with nothing fitted sends it, is the empty sheet: every function answers for it as
+   for the chart 01 00. So a board that could not be read must not be handed over as one that sent nothing.
+
    The caller owes: a pointer is not null, also where the length is 0, and its bytes are there; a buffer that is
    lent for writing overlaps no other argument. Everything else is judged, a sheet that the caller made too. */
 #ifndef MARGALHOSA_H

@@ -98,6 +98,9 @@ impl Reader<'_> {
 
 /// Refusals 1 to 11. Targets are not judged here.
 pub fn read(chart: &[u8]) -> Result<Vec<Body>, Refusal> {
+    if chart.is_empty() {
+        return Ok(vec![]);
+    }
     if chart.len() < 2 {
         return Err(Refusal(1, 0));
     }

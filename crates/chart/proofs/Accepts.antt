@@ -8,7 +8,7 @@ use mathlib.Core.Bool.{Bool, true, false, cond}
 use mathlib.Core.List.{List, [], _∷_, _++_}
 use lib.Dec.{eqb, leb, ltb}
 use lib.ListN.{length, getD}
-use borrow.Author.Tests.{lt-ltb, le-ltb, le-leb, lt-leb, ltb-true, ltb-false, leb-true, leb-false}
+use borrow.Author.Tests.{lt-ltb, le-ltb, le-leb, lt-leb, ne-eqb, ltb-true, ltb-false, leb-true, leb-false}
 use Rattle.chart.specs.declared.Line.{Line}
 use Rattle.chart.specs.declared.Board.{Board as Tables}
 use Rattle.chart.specs.declared.Answer.{Answer}
@@ -17,7 +17,7 @@ use Rattle.chart.specs.declared.Outcome.{Outcome}
 use Rattle.chart.specs.declared.reader.Nodes.{Nodes}
 use Rattle.chart.specs.declared.judge.Outside.{Outside}
 use Rattle.chart.specs.declared.judge.Outside.the-variants.{Nothing, Target}
-use Rattle.chart.specs.Chart.{Part, End, Node, Board, Reading, ready, refusal, Got, got, refused, numberOf, endsOf, targets, targetsOf, firstOutside, judgeTargets, judge, judged, bodies, chart}
+use Rattle.chart.specs.Chart.{Part, End, Node, Board, Reading, ready, refusal, Got, got, refused, numberOf, endsOf, targets, targetsOf, firstOutside, judgeTargets, judge, judged, underTwo, bodies, chart}
 use Rattle.chart.specs.Tables.{itemOf, lineOf, sourcesFrom, linesFrom, sinksFrom, boardTables}
 use Rattle.chart.specs.code.Filled.{emptyBoard, boardOf, tablesOf, withNodes}
 use Rattle.chart.specs.code.Steps.{nodesOf, outsideOf}
@@ -93,14 +93,23 @@ module _ (s : List ℕ) (small : getD s 1 0 ≤ 32) where
   judged-accepts ps (got qs at) h e = judge-accepts ps qs at h e
   judged-accepts ps (refused r) h e = never (numberOf r) 0 ps e
 
+-- a chart of no byte has no node
+under-two-accepts : (s : List ℕ) (ps : Board) → underTwo (length s) ≡ ready ps → Accepted s ps
+under-two-accepts [] ps e =
+    let a : Accepted [] [] = record { count = refl; nodes = omega arith; ends = omega arith; formed = tt; size = omega arith } in
+    rw (same [] ps e) at a
+under-two-accepts (b ∷ s) ps e =
+    let z : eqb (suc (length s)) 0 ≡ false = ne-eqb (suc (length s)) 0 (λ q. omega arith) in
+    never 1 0 ps (rw z at e)
+
 pub accepted : (s : List ℕ) (ps : Board) → chart s ≡ ready ps → Accepted s ps
 unfolding chart
 accepted s ps e = go (ltb (length s) 2) (eqb (getD s 0 0) 1) (leb (getD s 1 0) 32) (leb (2 + 2 * getD s 1 0) (length s)) refl e
   where
     go : (a b c d : Bool) → leb (getD s 1 0) 32 ≡ c
-        → cond a (refusal 1 0) (cond b (cond c (cond d (judged s (getD s 1 0) (bodies (getD s 1 0) s 0 (2 + 2 * getD s 1 0))) (refusal 4 0)) (refusal 3 0)) (refusal 2 0)) ≡ ready ps
+        → cond a (underTwo (length s)) (cond b (cond c (cond d (judged s (getD s 1 0) (bodies (getD s 1 0) s 0 (2 + 2 * getD s 1 0))) (refusal 4 0)) (refusal 3 0)) (refusal 2 0)) ≡ ready ps
         → Accepted s ps
-    go true b c d h q = never 1 0 ps q
+    go true b c d h q = under-two-accepts s ps q
     go false false c d h q = never 2 0 ps q
     go false true false d h q = never 3 0 ps q
     go false true true false h q = never 4 0 ps q

@@ -28,7 +28,7 @@ pub record Formed (s : List ℕ) (n : ℕ) (p : Node) : Type 0 where
 
 -- the chart s is read as the nodes ps
 pub record Accepted (s : List ℕ) (ps : Board) : Type 0 where
-  -- 'Byte 1 is n, 0 to 32'
+  -- 'Byte 1 is n, 0 to 32'; of a chart of no byte n is 0
   pub count : length ps ≡ getD s 1 0
   pub nodes : length ps ≤ 32
   -- 'sources plus sinks over all nodes at most 64'

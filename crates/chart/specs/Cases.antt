@@ -24,12 +24,13 @@ holds (is s a b) = numbered (chart (hex s)) a b
 
 cases : List Case
 cases =
-    -- 1: no byte
-    is "" 1 0 ∷
+    -- document 02, L1: no byte is no node
+    is "" 0 0 ∷
     -- 1: one byte
     is "01" 1 0 ∷
     -- 1 before 2
     is "00" 1 0 ∷
+    is "ff" 1 0 ∷
     -- 2
     is "0200" 2 0 ∷
     -- 2 before 3
@@ -146,6 +147,11 @@ part at len = record { at = at; len = len }
 empty : chart (hex "0100") ≡ ready []
 unfolding chart
 empty = refl
+
+-- document 02, L1: no byte, the same
+noByte : chart (hex "") ≡ ready []
+unfolding chart
+noByte = refl
 
 -- the worked chart
 worked : chart (hex "010206000b000000010100000000") ≡ ready (record { sources = []; lines = []; sinks = record { to = 1; text = part 11 0 } ∷ [] } ∷ record { sources = []; lines = []; sinks = [] } ∷ [])

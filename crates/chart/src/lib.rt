@@ -1,7 +1,7 @@
 // Document 01, module 1: a chart's bytes, read into tables. A source or a sink, and a line, is a record with the node that owns it;
 // a node's list is its records in table order.
 ghost use mathlib.Core.Path.{_≡_};
-ghost use Rattle.chart.specs.Chart.{refusal};
+ghost use Rattle.chart.specs.Chart.{refusal, underTwo};
 ghost use Rattle.chart.specs.Read.{IsRead};
 ghost use Rattle.chart.specs.code.Reads.{readOf, judgedOf, closedOf};
 use judge::Outside;
@@ -69,6 +69,20 @@ fn refused(number: u8, second: u32) -> Outcome
     }
 }
 
+// A chart of fewer than 2 bytes: of none it is the empty board, of one refusal 1.
+fn under_two(len: usize) -> Outcome
+    ensures { λ r. ⌜ r ≡ readOf (underTwo len) ⌝ }
+{
+    if len != 0 {
+        return refused(1, 0);
+    }
+    let empty = tables::no_nodes(0);
+    Outcome {
+        answer: Answer::Ready,
+        board: empty,
+    }
+}
+
 // Refusals 11 and 12.
 fn judged(board: Board) -> Outcome
     ensures { λ r. ⌜ r ≡ judgedOf board ⌝ }
@@ -107,7 +121,7 @@ pub fn read(chart: &[u8]) -> Outcome
     ensures { λ r. ⌜ IsRead (now (chart .entry)) r ⌝ }
 {
     if chart.len() < 2 {
-        return refused(1, 0);
+        return under_two(chart.len());
     }
     if chart[0] != 1 {
         return refused(2, 0);

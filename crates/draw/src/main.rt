@@ -1,5 +1,5 @@
 // A picture of a chart: a chart on standard input, its first 8,192 bytes, at origin 0 0; its sheet and labels, an SVG 1.1 document, on standard output.
-// Refused: the refusal on standard error, and nothing on standard output.
+// Refused: the refusal on standard error, and nothing on standard output; so too an input that can't be read.
 ghost use mathlib.Core.Path.{_≡_};
 ghost use mathlib.Core.Bool.{true};
 ghost use Prim.Native.Nat.{_≤_};
@@ -172,8 +172,20 @@ fn draw(chart: &[u8]) {
     }
 }
 
+// Whether the input, of which no byte was read, has ended. (A board with nothing fitted sends no byte; a read that fails is no board.)
+fn at_end() -> bool {
+    let mut space = [0u8; 1];
+    libc::read(0, &mut space) == 0
+}
+
 fn main() {
     let mut space = [0u8; 8192];
     let n = io::read_full(0, &mut space);
+    if n == 0 {
+        if !at_end() {
+            io::write_all(STDERR_FILENO, b"standard input can't be read\n");
+            return;
+        }
+    }
     draw(&space[..n]);
 }

@@ -24,3 +24,4 @@ pub mod RoomLaws
 pub mod CountLaws
 pub mod EndsLaws
 pub mod Tabled
+pub mod Empty

@@ -31,3 +31,4 @@ pub mod Sheets
 pub mod SoundLaws
 pub mod GivenLaws
 pub mod LabelPlaces
+pub mod Empty

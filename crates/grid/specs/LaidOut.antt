@@ -44,7 +44,7 @@ linesIn sh k = map (λ (t : Text). t .line) (getD (sh .boxes) k noOutputs .texts
 
 -- r is the sheet of the chart s at the origin x y
 pub record LaidOut (s : List ℕ) (x y : ℕ) (r : SheetRecord) : Type 0 where
-  -- the graph that the walk cut, and the box theorem of it: byte 1 is the number of nodes
+  -- the graph that the walk cut, and the box theorem of it: byte 1 is the number of nodes (0 of a chart of no byte)
   pub dag : Dag
   pub walked : graphed s ≡ cut dag
   pub boxes : BoxTheorem (getD s 1 0) (dag .cuts) (dag .graph) r

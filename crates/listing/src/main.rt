@@ -1,4 +1,5 @@
 // The listing of document 01: a chart on standard input, its first 8,192 bytes, at origin 0 0; the sheet, its boxes and its path, or the refusal, on standard output.
+// An input that can't be read: that, on standard error, and nothing on standard output.
 ghost use mathlib.Core.Path.{_≡_};
 ghost use mathlib.Core.Bool.{true};
 ghost use Prim.Native.Nat.{_≤_};
@@ -9,6 +10,7 @@ ghost use Rattle.path.specs.Promises.{IsWritten};
 use chart::Answer;
 use grid::BoxRecord;
 use grid::SheetRecord;
+use libc::STDERR_FILENO;
 use libc::STDOUT_FILENO;
 use path::Written;
 
@@ -99,8 +101,20 @@ fn print_listing(chart: &[u8]) {
     }
 }
 
+// Whether the input, of which no byte was read, has ended. (A board with nothing fitted sends no byte; a read that fails is no board.)
+fn at_end() -> bool {
+    let mut space = [0u8; 1];
+    libc::read(0, &mut space) == 0
+}
+
 fn main() {
     let mut space = [0u8; 8192];
     let n = io::read_full(0, &mut space);
+    if n == 0 {
+        if !at_end() {
+            io::write_all(STDERR_FILENO, b"standard input can't be read\n");
+            return;
+        }
+    }
     print_listing(&space[..n]);
 }

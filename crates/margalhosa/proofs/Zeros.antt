@@ -5,14 +5,14 @@ use native.Mathlib.Omega.{arith}
 use mathlib.Core.Path.{_≡_, refl, sym, ap, _∙_}
 use mathlib.Core.Bool.{Bool, true, false, cond, _&&_}
 use mathlib.Core.Option.{Option, none, some}
-use mathlib.Core.List.{List}
+use mathlib.Core.List.{List, []}
 use lib.Dec.{eqb, leb, ltb}
 use lib.ListN.{length, getD}
 use Rattle.laws.specs.Bytes.{same}
 use Rattle.laws.proofs.Tests.{pick}
 use Rattle.chart.specs.declared.Answer.{Answer}
 use Rattle.chart.specs.declared.Answer.the-variants.{Ready}
-use Rattle.chart.specs.Chart.{Board, Reading, ready as accepted, refusal as unread, Refusal, misplaced, cutBody, manyLines, longText, notText, numberOf, Got, got, refused, endsOf, targetsOf, firstOutside, judgeTargets, judged, bodies, chart}
+use Rattle.chart.specs.Chart.{Board, Reading, ready as accepted, refusal as unread, Refusal, misplaced, cutBody, manyLines, longText, notText, numberOf, Got, got, refused, endsOf, targetsOf, firstOutside, judgeTargets, judged, underTwo, bodies, chart}
 use Rattle.chart.specs.Read.{numbersOf}
 use Rattle.graph.specs.Graphed.{Graphed, ready as cut, refusal as uncut, dagOf, drawn as graphOf, graphed}
 use Rattle.graph.specs.Graph.{givenGraph}
@@ -66,19 +66,22 @@ judged-some : (s : List ℕ) (n : ℕ) (g : Got Board) → Read-some (judged s n
 judged-some s n (got ps at) = judge-some (ltb at (length s)) (leb (endsOf ps) 64) (judgeTargets (firstOutside (targetsOf ps) n) ps) (targets-some (firstOutside (targetsOf ps) n) ps)
 judged-some s n (refused r) = number-some r
 
-head-some : (a b c d : Bool) (v : Reading) → Read-some v → Read-some (cond a (unread 1 0) (cond b (cond c (cond d v (unread 4 0)) (unread 3 0)) (unread 2 0)))
-head-some true b c d v h = omega arith
-head-some false false c d v h = omega arith
-head-some false true false d v h = omega arith
-head-some false true true false v h = omega arith
-head-some false true true true v h = h
+under-two-some : (k : ℕ) → Read-some (underTwo k)
+under-two-some k = pick Read-some (eqb k 0) (accepted []) (unread 1 0) tt (omega arith)
+
+head-some : (a b c d : Bool) (u v : Reading) → Read-some u → Read-some v → Read-some (cond a u (cond b (cond c (cond d v (unread 4 0)) (unread 3 0)) (unread 2 0)))
+head-some true b c d u v g h = g
+head-some false false c d u v g h = omega arith
+head-some false true false d u v g h = omega arith
+head-some false true true false u v g h = omega arith
+head-some false true true true u v g h = h
 
 chart-some : (s : List ℕ) → Read-some (chart s)
 unfolding chart
 chart-some s =
     let n = getD s 1 0 in
     let g = bodies n s 0 (2 + 2 * n) in
-    head-some (ltb (length s) 2) (eqb (getD s 0 0) 1) (leb n 32) (leb (2 + 2 * n) (length s)) (judged s n g) (judged-some s n g)
+    head-some (ltb (length s) 2) (eqb (getD s 0 0) 1) (leb n 32) (leb (2 + 2 * n) (length s)) (underTwo (length s)) (judged s n g) (under-two-some (length s)) (judged-some s n g)
 
 -- ---- 13
 abbrev Graph-some : Graphed → Type 0

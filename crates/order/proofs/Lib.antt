@@ -19,3 +19,4 @@ pub mod Pushed
 pub mod Whole
 pub mod Links
 pub mod Graphs
+pub mod Empty

@@ -121,7 +121,11 @@ cases =
     -- a refused chart's numbers, before 15
     ∷ is "010206000b0001000005000000010600" 0 0 fixed 0 0 (refused 12 5) start ""
     ∷ is "010206000b0001000005000000010600" 0 0 wrong 99 0 (refused 12 5) start ""
-    ∷ is "" 0 0 fixed 0 0 (refused 1 0) start ""
+    ∷ is "01" 0 0 fixed 0 0 (refused 1 0) start ""
+    -- the empty chart has no label; 14 by the origin comes first
+    ∷ is "" 0 0 fixed 0 0 (refused 15 0) start ""
+    ∷ is "" 8388352 0 fixed 0 0 (refused 15 0) start ""
+    ∷ is "" 8388353 0 fixed 0 0 (refused 14 0) start ""
     ∷ []
 
 all-hold : allOf holds cases ≡ true

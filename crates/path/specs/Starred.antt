@@ -87,6 +87,8 @@ unfoldable pub starred : List Case
 starred =
     -- '01 00: 256 by 256, no box.'
     is "0100" 256 256 0 0 ∷
+    -- document 02, L1: 'A chart of length 0 now means the empty sheet, the same answer as 01 00.'
+    is "" 256 256 0 0 ∷
     -- 'One bare node: 640 by 640.'
     is "01010400000000" 640 640 1 0 ∷
     -- 'Two bare nodes: node 1 in column 0, node 0 in column 1, 2048 by 640.'
