@@ -1,5 +1,5 @@
 // A picture of a chart: a chart on standard input, its first 8,192 bytes, at origin 0 0; its sheet and labels, an SVG 1.1 document, on standard output.
-// Refused: the refusal on standard error, and nothing on standard output; so too an input that can't be read.
+// Refused: the refusal on standard error, and nothing on standard output; so too an input of which no byte can be read.
 ghost use mathlib.Core.Path.{_≡_};
 ghost use mathlib.Core.Bool.{true};
 ghost use Prim.Native.Nat.{_≤_};

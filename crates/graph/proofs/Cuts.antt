@@ -13,6 +13,7 @@ use lib.ListN.{length, getD, set, take, drop, length-append, length-set, List·g
 use lib.Seq.{getD-set-same, getD-set-other, set-split, split-at, take-suc, set-at, getD-at, getD-append-add}
 use borrow.Author.Tests.{eq-eqb, ne-eqb, eqb-true}
 use Rattle.laws.specs.Lists.{keep, one, tabulate}
+use Rattle.laws.proofs.Tests.{pick-through}
 use Rattle.laws.proofs.Lists.{length-tabulate, all-map, tabulate-set, tabulate-same, tabulate-snoc}
 use Rattle.chart.specs.declared.Line.{Line as LineItem}
 use Rattle.chart.specs.code.Filled.{linesOf as textsOf, ownedLines}
@@ -90,12 +91,8 @@ module _ (q c to : ℕ) where
   turn-owner : (x : Item) → turnItem q c to x .owner ≡ x .owner
   turn-owner x = pick-owner (eqb (x .owner) q && eqb (x .to) c) _ x refl
 
-  pick-edge : (b : Bool) (x y : Item) → edgeOf (cond b x y) ≡ cond b (edgeOf x) (edgeOf y)
-  pick-edge true x y = refl
-  pick-edge false x y = refl
-
   turn-edge : (x : Item) → x .owner ≡ q → edgeOf (turnItem q c to x) ≡ turned c to (edgeOf x)
-  turn-edge x e = rw (eq-eqb (x .owner) q e) (pick-edge (eqb (x .to) c) _ x)
+  turn-edge x e = rw (eq-eqb (x .owner) q e) (pick-through edgeOf (eqb (x .to) c) _ x)
 
   turn-not : (x : Item) → (x .owner ≡ q → ⊥) → turnItem q c to x ≡ x
   turn-not x e = rw (ne-eqb (x .owner) q e)

@@ -2,9 +2,10 @@
 -- Assumes nothing.
 use Prim.Native.Nat.{ℕ}
 use mathlib.Core.Path.{_≡_, refl, ap, _∙_}
-use mathlib.Core.Bool.{Bool, true, false, cond, _&&_}
+use mathlib.Core.Bool.{cond, _&&_}
 use mathlib.Core.List.{[], _∷_}
 use Rattle.laws.specs.Each.{each}
+use Rattle.laws.proofs.Tests.{pick-through}
 use Rattle.graph.specs.Shape.{shapeOf}
 use Rattle.graph.proofs.Empty.{empty-graph, no-node}
 use Rattle.order.specs.Chains.{columns as firstColumns}
@@ -12,7 +13,7 @@ use Rattle.grid.specs.Heights.{heights}
 use Rattle.grid.specs.Columns.{firstMoves, foldFrom, average, columns}
 use Rattle.grid.specs.RenderGrid.{Sheet, sheetOf, sheet}
 use Rattle.grid.specs.Sheeted.{ready, refusal, within, fitted, drawn, sheetOfDag, sheeted}
-use Rattle.grid.specs.Labelled.{Labelled, refusal as unlabelled, labelOn, labelled}
+use Rattle.grid.specs.Labelled.{refusal as unlabelled, labelOn, labelled}
 
 -- 'A chart of length 0 now means the empty sheet, the same answer as 01 00.'
 pub empty-sheet : (x y : ℕ) → sheeted [] x y ≡ sheeted (1 ∷ 0 ∷ []) x y
@@ -39,8 +40,4 @@ no-box x y = ap (drawn x y) no-node ∙ ap (fitted x y) without-nodes
 -- no label is there: 15, after 14
 pub no-label : (x y k i : ℕ) → labelled [] x y k i ≡ cond (within x 256 && within y 256) (unlabelled 15 0) (unlabelled 14 0)
 unfolding labelled
-no-label x y k i = ap (labelOn k i) (no-box x y) ∙ go (within x 256 && within y 256)
-  where
-    go : (b : Bool) → labelOn k i (cond b (ready unboxed) (refusal 14 0)) ≡ cond b (unlabelled 15 0) (unlabelled 14 0)
-    go true = refl
-    go false = refl
+no-label x y k i = ap (labelOn k i) (no-box x y) ∙ pick-through (labelOn k i) (within x 256 && within y 256) (ready unboxed) (refusal 14 0)

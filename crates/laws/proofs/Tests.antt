@@ -41,3 +41,8 @@ or-assoc false b c = refl
 pub pick : {A : Type 0} (P : A → Type 0) (b : Bool) (x y : A) → P x → P y → P (cond b x y)
 pick P true x y p q = p
 pick P false x y p q = q
+
+-- of the one that is taken, what is made of it is the one taken of what is made of both
+pub pick-through : {A B : Type 0} (f : A → B) (b : Bool) (x y : A) → f (cond b x y) ≡ cond b (f x) (f y)
+pick-through f true x y = refl
+pick-through f false x y = refl

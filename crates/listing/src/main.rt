@@ -1,5 +1,5 @@
 // The listing of document 01: a chart on standard input, its first 8,192 bytes, at origin 0 0; the sheet, its boxes and its path, or the refusal, on standard output.
-// An input that can't be read: that, on standard error, and nothing on standard output.
+// An input of which no byte can be read: that, on standard error, and nothing on standard output.
 ghost use mathlib.Core.Path.{_≡_};
 ghost use mathlib.Core.Bool.{true};
 ghost use Prim.Native.Nat.{_≤_};

@@ -4,13 +4,13 @@ use Prim.Native.Nat.{ℕ, zero, suc, _+_, _-_, _*_, _/_, _%_, _≤_, _<_}
 use native.Mathlib.Omega.{arith}
 use mathlib.Core.Logic.{inl, inr}
 use mathlib.Core.Path.{_≡_, refl, ap, sym, _∙_, subst}
-use mathlib.Core.Bool.{Bool, true, false, cond}
+use mathlib.Core.Bool.{false}
 use mathlib.Core.List.{List, [], _∷_, _++_, map}
 use lib.Dec.{ltb}
 use lib.ListN.{length, getD, take, replicate, length-map, length-replicate}
 use lib.Seq.{take-suc, take-length, length-take-le, take-at}
 use borrow.Author.Tests.{eq-eqb, ne-eqb, lt-ltb, le-ltb}
-use Rattle.laws.proofs.Tests.{less?, same?}
+use Rattle.laws.proofs.Tests.{less?, same?, pick-through}
 use Rattle.graph.specs.Shape.{Shape}
 use Rattle.order.specs.Against.{Against, all}
 use Rattle.order.specs.Weights.{Table, stands, beforeOf, afterOf, round, first, weights}
@@ -37,11 +37,7 @@ module _ (n : ℕ) (t : Table) (f : Fine n t) (s : List ℕ) (h : Hold n t s) (s
   pair-key p q l k =
       let x : sumsOf (beforeOf p q t) (afterOf p q t) % 65536 ≡ beforeOf p q t = omega (arith, small p q l k) in
       let y : sumsOf (beforeOf p q t) (afterOf p q t) / 65536 ≡ afterOf p q t = omega (arith, small p q l k) in
-      rw (h p q l k, x, y) (go (ltb (beforeOf p q t) (afterOf p q t)))
-    where
-      go : (b : Bool) → cond b (beforeOf p q t * 4096 + q * 64 + p) (afterOf p q t * 4096 + p * 64 + q) ≡ keyOf (cond b (triple (beforeOf p q t) q p) (triple (afterOf p q t) p q))
-      go true = refl
-      go false = refl
+      rw (h p q l k, x, y) (sym (pick-through keyOf (ltb (beforeOf p q t) (afterOf p q t)) (triple (beforeOf p q t) q p) (triple (afterOf p q t) p q)))
 
   pub key-is : (c : Against) → c .first < n → c .second < n → keyAt s (c .first) (c .second) ≡ keyOf (tripleOf t c)
   key-is c i j =
