@@ -333,6 +333,65 @@ static void refused(const uint8_t *chart, size_t n, margalhosa_sheet_result r) {
     need(no_label(chart, n, 0, table, 0, 0, 0, r.refused, r.second), "a label of a refused chart, no table: its refusal");
 }
 
+/* ---- the signal order */
+/* The nodes that lead to each, as bits: p leads to q if p has a sink to q or q a source from p. */
+static void leading(const uint8_t *chart, uint32_t n, uint32_t to[32]) {
+    size_t at = 2 + 2 * n;
+    memset(to, 0, 32 * sizeof to[0]);
+    for (uint32_t k = 0; k < n; k++) {
+        const uint8_t *counts = chart + at;
+        at += 3;
+        for (int list = 0; list < 3; list++)
+            for (uint32_t i = 0; i < counts[list]; i++) {
+                if (list == 0) to[k] |= UINT32_C(1) << chart[at];
+                if (list == 2) to[chart[at]] |= UINT32_C(1) << k;
+                if (list != 1) at++;
+                at += 1u + chart[at];
+            }
+    }
+}
+
+static int is_free(uint32_t k, const uint32_t to[32], uint32_t listed) { return !(listed >> k & 1) && !(to[k] & ~listed); }
+
+static void check_listed(margalhosa_order_result o, const uint32_t to[32]) {
+    uint32_t listed = 0;
+    for (uint32_t i = 0; i < o.count; i++) {
+        need(is_free(o.nodes[i], to, listed), "each node comes after its sources");
+        for (uint32_t k = 0; k < o.nodes[i]; k++) need(!is_free(k, to, listed), "the lowest free number comes next");
+        listed |= UINT32_C(1) << o.nodes[i];
+    }
+}
+
+static void check_cycle(margalhosa_order_result o, const uint32_t to[32]) {
+    need(o.count > 0, "a cycle has a node");
+    for (uint32_t i = 0; i < o.count; i++)
+        need(to[o.nodes[(i + 1) % o.count]] >> o.nodes[i] & 1, "each node of a cycle has a sink to the next, the last to the first");
+}
+
+/* r: the answer for the sheet of the same chart. */
+static void check_order(const uint8_t *chart, size_t n, margalhosa_sheet_result r) {
+    margalhosa_order_result o = margalhosa_signal_order(chart, n);
+    need(o.count <= 32, "an order's count");
+    for (uint32_t i = o.count; i < 32; i++) need(o.nodes[i] == 0, "the entries past an order's count are 0");
+    if (r.refused >= 1 && r.refused <= 12) {
+        need(o.refused == r.refused && o.second == r.second && o.count == 0, "the order of a refused chart: its refusal, no node");
+        return;
+    }
+    need((o.refused == 0 || o.refused == 20) && o.second == 0, "an order or 20, never 13 or 14");
+    uint32_t given = n > 0 ? chart[1] : 0, seen = 0, to[32];
+    for (uint32_t i = 0; i < o.count; i++) {
+        need(o.nodes[i] < given && !(seen >> o.nodes[i] & 1), "given nodes, none twice");
+        seen |= UINT32_C(1) << o.nodes[i];
+    }
+    leading(chart, given, to);
+    if (o.refused == 0) {
+        need(o.count == given, "an order has each given node");
+        check_listed(o, to);
+    } else {
+        check_cycle(o, to);
+    }
+}
+
 /* ---- path texts that are refused */
 static void check_reader(const char *text, uint32_t number, uint64_t second) {
     static uint8_t buffer[64];
@@ -376,6 +435,7 @@ int main(void) {
         } else {
             refused(chart, n, r);
         }
+        check_order(chart, n, r);
         printf("\n");
         charts++;
     }

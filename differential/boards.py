@@ -2,7 +2,7 @@
 """What each chart is read as, from document 01's module 1 and refusals 1 to 12 alone: charts in hexadecimal, one on
 each line of standard input; boards or refusals on standard output, in the form of the program `boards`.
 
-Made `crates/boards/stdout` from `crates/boards/stdin`. It shares no code with the other readers.
+Made `crates/boards/stdout` from `crates/boards/stdin`. It shares no code with the other readers. signals.py reads by it too.
 """
 import sys
 
@@ -69,13 +69,14 @@ def read(chart):
     return n, sources, lines, sinks
 
 
-for row in sys.stdin:
-    try:
-        n, *tables = read(bytes.fromhex(row.strip()))
-        print("board", n)
-        for name, table in zip(("source", "line", "sink"), tables):
-            for item in table:
-                print(name, *item)
-    except Refused as refused:
-        print("refused", *refused.args)
-    print()
+if __name__ == "__main__":
+    for row in sys.stdin:
+        try:
+            n, *tables = read(bytes.fromhex(row.strip()))
+            print("board", n)
+            for name, table in zip(("source", "line", "sink"), tables):
+                for item in table:
+                    print(name, *item)
+        except Refused as refused:
+            print("refused", *refused.args)
+        print()

@@ -1,9 +1,10 @@
-/* Margalhosa for firmware in C: a chart's wiring sheet, its boxes, segments, path text and labels.
+/* Margalhosa for firmware in C: a chart's wiring sheet, its boxes, segments, path text and labels; its signal order.
 
    Link target/staticlib/libmargalhosa.a (`rt staticlib margalhosa`; it wants memcpy, memmove and memset).
    Each function is proved to meet its contract in crates/margalhosa/src/lib.rt, for every input; "1 to 14" below
-   are the refusals of document 01. In each result `refused` is the refusal's number, 0 if nothing is refused, and
-   `second` its second number. The functions keep nothing between calls and write nothing but the lent buffer.
+   are the refusals of document 01, 20 is document 02's. In each result `refused` is the refusal's number, 0 if nothing
+   is refused, and `second` its second number. The functions keep nothing between calls and write nothing but the lent
+   buffer.
 
    A chart of length 0, as a board with nothing fitted sends it, is the empty sheet: every function answers for it as
    for the chart 01 00. So a board that could not be read must not be handed over as one that sent nothing.
@@ -93,6 +94,14 @@ typedef struct {
     uint32_t fixed, at, len;
 } margalhosa_part_result;
 
+/* The first `count` nodes: all of the chart, in order; refused by 20, those of a cycle; refused by 1 to 12, none. The
+   entries past them are 0. */
+typedef struct {
+    uint32_t refused, second;
+    uint8_t count;
+    uint8_t nodes[32];
+} margalhosa_order_result;
+
 /* The sheet of a chart at the origin x y: 1 to 14. */
 margalhosa_sheet_result margalhosa_sheet(const uint8_t *chart, uint64_t chart_length, uint32_t x, uint32_t y);
 
@@ -113,6 +122,11 @@ margalhosa_label_result margalhosa_label_place(const uint8_t *chart, uint64_t ch
 /* The text of that label: 1 to 15. */
 margalhosa_part_result margalhosa_label_part(const uint8_t *chart, uint64_t chart_length, uint32_t x, uint32_t y,
                                              const uint8_t *table, uint64_t table_length, uint32_t k, uint32_t i);
+
+/* The given nodes so that each sink of the completed, uncut graph comes after its source, the lowest free number next
+   (free: its sources are all listed); or, refused by 20, a cycle: distinct nodes, each with a sink to the next and the
+   last to the first: 1 to 12, then 20. */
+margalhosa_order_result margalhosa_signal_order(const uint8_t *chart, uint64_t chart_length);
 
 /* How many segments a path text has: 17 to 19. */
 margalhosa_count_result margalhosa_text_count(const uint8_t *text, uint64_t text_length);
@@ -139,6 +153,8 @@ _Static_assert(sizeof(margalhosa_segment_result) == 40, "a segment's result");
 _Static_assert(sizeof(margalhosa_count_result) == 24, "a count's result");
 _Static_assert(sizeof(margalhosa_label_result) == 24, "a label's result");
 _Static_assert(sizeof(margalhosa_part_result) == 20, "a part's result");
+_Static_assert(sizeof(margalhosa_order_result) == 44, "an order's result");
+_Static_assert(offsetof(margalhosa_order_result, nodes) == 9, "an order's nodes");
 #endif
 
 #endif

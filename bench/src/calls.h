@@ -11,6 +11,7 @@ static margalhosa_sheet_result *result;
 static margalhosa_count_result written;
 static margalhosa_segment_result segment;
 static margalhosa_label_result label;
+static margalhosa_order_result order;
 static const uint8_t table[MARGALHOSA_TABLE_LENGTH] = MARGALHOSA_TABLE;
 
 #define CALL __attribute__((noinline)) void
@@ -19,10 +20,11 @@ CALL call_sheet(void) { sheet_to(result, chart, chart_length, 0, 0); __asm__ vol
 CALL call_text(void) { written = margalhosa_text(result->sheet, text, text_room); }
 CALL call_segment(void) { segment = margalhosa_segment(result->sheet, 5 * result->sheet.count + 2 * result->sheet.drawn - 1); }
 CALL call_label_place(void) { label = margalhosa_label_place(chart, chart_length, 0, 0, table, sizeof table, 0, 0); }
+CALL call_signal_order(void) { order = margalhosa_signal_order(chart, chart_length); }
 CALL call_done(void) { __asm__ volatile(""); }
-#define CALLS 4
-static void (*const calls[CALLS])(void) = {call_sheet, call_text, call_segment, call_label_place};
-static const char *const names[CALLS] = {"sheet", "text", "segment", "label_place"};
+#define CALLS 5
+static void (*const calls[CALLS])(void) = {call_sheet, call_text, call_segment, call_label_place, call_signal_order};
+static const char *const names[CALLS] = {"sheet", "text", "segment", "label_place", "signal_order"};
 
 /* FNV-1a, of the fields (bytes between them are nobody's) */
 static uint32_t sum_of(uint32_t h, uint64_t v, int bytes) {
@@ -60,4 +62,9 @@ static uint32_t sum_segment(void) {
 static uint32_t sum_label(void) {
   return sum_of(sum_of(sum_of(sum_of(sum_of(sum_of(2166136261u, label.refused, 4), label.second, 4), label.x, 4), label.y, 4), label.size, 4), label.width, 4);
 }
-static uint32_t (*const sums[CALLS])(void) = {sum_sheet, sum_text, sum_segment, sum_label};
+static uint32_t sum_order(void) {
+  uint32_t h = sum_of(sum_of(sum_of(2166136261u, order.refused, 4), order.second, 4), order.count, 1);
+  for (int i = 0; i < 32; i++) h = sum_of(h, order.nodes[i], 1);
+  return h;
+}
+static uint32_t (*const sums[CALLS])(void) = {sum_sheet, sum_text, sum_segment, sum_label, sum_order};

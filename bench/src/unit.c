@@ -1,5 +1,5 @@
-/* The bench unit's firmware as far as the layout goes: chart -> sheet -> text, then a segment and a label, in the memory of unit.ld.
-   Runs on qemu's mps2-an385, which runs ARMv6-M code. A line `NAME STACK SUM` for each call, then `done`. */
+/* The bench unit's firmware as far as the layout goes: chart -> sheet -> text, then a segment, a label and the signal order, in the
+   memory of unit.ld. Runs on qemu's mps2-an385, which runs ARMv6-M code. A line `NAME STACK SUM` for each call, then `done`. */
 #include "start.h"
 
 /* Where the emulator puts the chart's length and bytes, as the unit would read them out of a board: neither its flash nor its RAM. */

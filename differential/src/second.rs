@@ -501,7 +501,6 @@ fn lay(sizes: &[i64], gap: i64) -> (Vec<i64>, i64) {
 }
 
 struct Layout {
-    completed: Vec<Node>,
     nodes: Vec<Node>,
     cuts: usize,
     first: Vec<usize>,
@@ -509,18 +508,22 @@ struct Layout {
     columns: Vec<usize>,
 }
 
-/// Modules 1 to 7, and refusals 1 to 13.
-fn layout(chart: &[u8]) -> Result<Layout, Refusal> {
+/// Modules 1 and 2, and refusals 1 to 12.
+fn completed(chart: &[u8]) -> Result<Vec<Node>, Refusal> {
     let bodies = chart::read(chart)?;
     targets(&bodies)?;
-    let mut completed = given(&bodies);
-    complete(&mut completed);
-    let (nodes, cuts) = cut(completed.clone())?;
+    let mut nodes = given(&bodies);
+    complete(&mut nodes);
+    Ok(nodes)
+}
+
+/// Modules 1 to 7, and refusals 1 to 13.
+fn layout(chart: &[u8]) -> Result<Layout, Refusal> {
+    let (nodes, cuts) = cut(completed(chart)?)?;
     let first = first_columns(&nodes);
     let rows = heights(&nodes);
     let columns = columns(&nodes, &first, &rows);
     Ok(Layout {
-        completed,
         nodes,
         cuts,
         first,
@@ -661,12 +664,15 @@ fn numbers<T: ToString>(list: &[T]) -> String {
 }
 
 fn stages(chart: &[u8]) -> String {
-    match layout(chart::listed(chart)) {
-        Err(refusal) => refusal.line(),
+    let chart = chart::listed(chart);
+    let begun = match completed(chart) {
+        Err(refusal) => return refusal.line(),
+        Ok(nodes) => format!("completed {}{}\n", nodes.len(), graph_text(&nodes)),
+    };
+    match layout(chart) {
+        Err(refusal) => begun + &refusal.line(),
         Ok(l) => format!(
-            "completed {}{}\ncut {} {}{}\nfirst{}\nheights{}\ncolumns{}\n",
-            l.completed.len(),
-            graph_text(&l.completed),
+            "{begun}cut {} {}{}\nfirst{}\nheights{}\ncolumns{}\n",
             l.nodes.len(),
             l.cuts,
             graph_text(&l.nodes),

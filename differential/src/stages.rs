@@ -32,7 +32,10 @@ fn stages(chart: &[u8]) -> String {
     };
     STAGES.take();
     match grid_process(&arena(&bodies), true) {
-        Ok(grid) if grid.dag.len() > MAX_BOXES => Refusal(13, 0).line(),
+        // the completed graph is there, and not cut
+        Ok(grid) if grid.dag.len() > MAX_BOXES => {
+            format!("{}\n{}", STAGES.take()[0], Refusal(13, 0).line())
+        }
         Ok(grid) => {
             let cuts = (grid.dag.len() - bodies.len()) / 2;
             let before = format!("cut {}", grid.dag.len());

@@ -10,12 +10,13 @@ use lib.Dec.{eqb}
 use lib.ListN.{length, getD, set}
 use Rattle.laws.specs.Lists.{All, one}
 use Rattle.laws.proofs.Lists.{all-map, all-join, all-made}
+use Rattle.laws.proofs.Tests.{pick}
 use Rattle.graph.specs.Graph.{Edge, Node, Graph, noText, noEdge, bare, nodeAt, leadsTo, hasMarked, withSources, withSinks}
 use Rattle.graph.specs.Completion.{gainSource, marked, gainSink, complete}
 use Rattle.graph.specs.Cutting.{turned, pointed, firstNode, secondNode, cutGraph, cutting}
 use Rattle.graph.specs.Laws.{Leads, Aimed, SinkAt}
 use Rattle.graph.proofs.Resumes.{length-cut}
-use Rattle.graph.proofs.Keeps.{pick, cutting-keeps}
+use Rattle.graph.proofs.Keeps.{cutting-keeps}
 use Rattle.graph.proofs.Completes.{SourceAt, complete-holds}
 
 -- ---- each of a list

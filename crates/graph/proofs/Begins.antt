@@ -1,24 +1,25 @@
 -- From the chart's board to the tables, and from the tables to the answer.
 -- Assumes nothing.
-use Prim.Native.Nat.{ℕ, zero, suc, _≤_, _<_}
+use Prim.Native.Nat.{ℕ, _≤_, _<_}
 use native.Mathlib.Omega.{arith}
 use native.Mathlib.Nat.{zero-add}
-use mathlib.Core.Path.{_≡_, refl, ap, sym, _∙_}
-use mathlib.Core.Bool.{Bool, true, false, cond}
+use mathlib.Core.Path.{_≡_, refl, ap, sym, _∙_, subst}
+use mathlib.Core.Bool.{Bool, true, false, cond, true≢false}
 use mathlib.Core.List.{List, [], _∷_, _++_, map, append-nil}
 use lib.Dec.{eqb, leb}
 use lib.ListN.{length, getD, replicate, getD-replicate}
 use borrow.Author.Tests.{le-leb, lt-leb}
-use Rattle.laws.specs.Lists.{All, tabulate, flat, padded}
+use Rattle.laws.specs.Lists.{All, padded}
 use Rattle.laws.proofs.Lists.{all-made, getD-tabulate, tabulate-same, map-tabulate, capped-room}
 use Rattle.chart.specs.declared.Item.{Item as GivenItem}
 use Rattle.chart.specs.declared.Line.{Line as LineItem}
 use Rattle.chart.specs.declared.Board.{Board as BoardTables}
+use Rattle.chart.specs.declared.Lines.{Lines}
 use Rattle.chart.specs.declared.Answer.the-variants.{Ready, Refused}
 use Rattle.chart.specs.declared.Outcome.{Outcome as BoardOutcome}
 use Rattle.chart.specs.Chart.{Board, ready as accepted, refusal as refused, chart}
 use Rattle.chart.specs.Chart.{Node as GivenNode}
-use Rattle.chart.specs.Tables.{noLine, lineOf, linesFrom}
+use Rattle.chart.specs.Tables.{noLine, linesFrom}
 use Rattle.chart.specs.code.Filled.{linesOf as textsOf, ownedLines, boardFrom, boardOf}
 use Rattle.chart.specs.code.Filled.{itemsOf as endsOf, owned as ownedEnds, nodeOf as givenNodeOf}
 use Rattle.chart.specs.Accepted.{Formed, Accepted}
@@ -33,13 +34,14 @@ use Rattle.graph.specs.declared.Outcome.{Outcome}
 use Rattle.graph.specs.Graph.{given, number, Graph, unmarked, givenNode, givenGraph}
 use Rattle.graph.specs.Completion.{complete}
 use Rattle.graph.specs.Cutting.{Walk, cutting}
-use Rattle.graph.specs.Graphed.{dagOf, ready, refusal, boxed, graphed}
-use Rattle.graph.specs.code.Tables.{owned, itemsOf, unmarkedItem, nodeOf, linesAt, linesOf, graphFrom, graphOf, Below, Aimed, Completed}
-use Rattle.graph.specs.code.Explore.{Explore, walkOf, CutAll}
+use Rattle.graph.specs.Graphed.{ready, refusal, boxed}
+use Rattle.graph.specs.code.Tables.{owned, itemsOf, unmarkedItem, nodeOf, linesAt, linesOf, graphFrom, graphOf, Below, Aimed, Roomy, Completed}
+use Rattle.graph.specs.code.Explore.{Explore, walkOf, CutAll, CutTables, SameGraph, CutIf, over}
 use Rattle.graph.specs.Outcome.{textsFrom, namesOf, sourcesFrom, sinksFrom, tableOf, tablesOf}
-use Rattle.graph.specs.code.Graphs.{noNodes, IsAnswer, inOrder, orderedOf, Held, Begun}
+use Rattle.graph.specs.Completed.{uncut}
+use Rattle.graph.specs.code.Graphs.{noNodes, stage, staged, IsAnswer, inOrder, orderedOf, Held, Begun}
 use Rattle.graph.proofs.Cuts.{length-graph}
-use Rattle.graph.proofs.LineLaws.{board-lined}
+use Rattle.graph.proofs.LineLaws.{Lined, givenLines, completed-lined, board-lined}
 use Rattle.graph.proofs.Orders.{sources-ordered, sinks-ordered, names-held, texts-held, done-linked, done-graph}
 
 -- ---- the graph that the board gives
@@ -110,21 +112,43 @@ fewer : (s : List ℕ) (n : ℕ) (ps : Board) → All (Formed s n) ps → All (�
 fewer s n [] a = tt
 fewer s n (p ∷ ps) a = (a .0 .few, fewer s n ps (a .1))
 
-texts-are : (ps : Board) → textsFrom 0 (cutting (complete (givenGraph ps)) .graph) ≡ linesFrom 0 ps
-texts-are ps = texts-held (length ps) ps (cutting (complete (givenGraph ps)) .graph) (board-lined ps)
-
 given-few : (s : List ℕ) (ps : Board) → chart s ≡ accepted ps → length (linesFrom 0 ps) ≤ 128
 given-few s ps e = let a : Accepted s ps = accepts s ps e in omega (arith, lines-count 0 ps (fewer s (length ps) ps (a .formed)), a .nodes)
 
 -- at most 128 given lines
-pub few-lines : (s : List ℕ) (ps : Board) → chart s ≡ accepted ps → length (textsFrom 0 (cutting (complete (givenGraph ps)) .graph)) ≤ 128
-few-lines s ps e = rw (texts-are ps) (given-few s ps e)
+pub few-lines : (s : List ℕ) (ps : Board) → chart s ≡ accepted ps → (g : Graph) → Lined (length ps) (givenLines ps) g → length (textsFrom 0 g) ≤ 128
+few-lines s ps e g l = rw (texts-held (length ps) ps g l) (given-few s ps e)
 
-lines-are : (b : BoardTables) → Held b → b .lines ≡ record { items = padded 128 noLine (textsFrom 0 (wholeOf b .graph)); count = length (textsFrom 0 (wholeOf b .graph)) }
-lines-are b h =
+-- the given lines of a graph, as the table holds them
+abbrev linesIn : Graph → Lines
+linesIn g = record { items = padded 128 noLine (textsFrom 0 g); count = length (textsFrom 0 g) }
+
+lines-are : (b : BoardTables) → Held b → (g : Graph) → Lined (length (boardOf b)) (givenLines (boardOf b)) g → b .lines ≡ linesIn g
+lines-are b h g l =
     let ps : Board = boardOf b in
     ap (λ (t : BoardTables). t .lines) (h .whole ∙ tables-held (length ps) ps)
-    ∙ rw (texts-are ps, capped-room 128 (length (linesFrom 0 ps)) (given-few (h .chart-bytes) ps (h .read)))
+    ∙ rw (texts-held (length ps) ps g l, capped-room 128 (length (linesFrom 0 ps)) (given-few (h .chart-bytes) ps (h .read)))
+
+-- tables in order answer for the graph that they hold
+answered : (t : Tables) → Roomy t → length (t .names) ≡ 48 → length (t .sources .items) ≡ 88 → length (t .sinks .items) ≡ 88 → t .lines ≡ linesIn (graphOf t) → (r : Tables) → r ≡ orderedOf t →
+    IsAnswer (ready (record { graph = graphOf t; cuts = t .cuts })) (record { answer = Ready; graph = r })
+answered t o long lx ly lines r e =
+    let size : length (graphOf t) ≡ t .n = length-graph (t .n) (linesOf t) (itemsOf (t .sources)) (itemsOf (t .sinks)) in
+    let names : padded 48 255 (namesOf (graphOf t)) ≡ t .names = names-held t long (o .linked .nodes) (o .blank) in
+    let xs : sourcesFrom 0 (graphOf t) ≡ inOrder (t .n) (itemsOf (t .sources)) = sources-ordered (t .n) (linesOf t) (itemsOf (t .sources)) (itemsOf (t .sinks)) in
+    let ys : sinksFrom 0 (graphOf t) ≡ inOrder (t .n) (itemsOf (t .sinks)) = sinks-ordered (t .n) (linesOf t) (itemsOf (t .sources)) (itemsOf (t .sinks)) in
+    let made : tablesOf (record { graph = graphOf t; cuts = t .cuts }) ≡ r = e-of t r e size names lines xs ys in
+    record {
+      graphs = rw e (ap (λ (u : Graph). ready (record { graph = u; cuts = t .cuts })) (done-graph t (o .linked) lx ly));
+      whole = ap (λ (u : Tables). record { answer = Ready; graph = u }) (sym made);
+      linked = rw e (done-linked t (o .linked) lx ly);
+    }
+  where
+    e-of : (t r : Tables) → r ≡ orderedOf t →
+        length (graphOf t) ≡ t .n → padded 48 255 (namesOf (graphOf t)) ≡ t .names → t .lines ≡ linesIn (graphOf t) →
+        sourcesFrom 0 (graphOf t) ≡ inOrder (t .n) (itemsOf (t .sources)) → sinksFrom 0 (graphOf t) ≡ inOrder (t .n) (itemsOf (t .sinks)) →
+        tablesOf (record { graph = graphOf t; cuts = t .cuts }) ≡ r
+    e-of t r e size names lines xs ys = cc (ap tableOf xs, ap tableOf ys)
 
 module _ (b : BoardTables) (h : Held b) (t₀ t₁ : Tables) (begin : Begun b t₀) (done : Completed t₀ t₁) where
   whole-is : cutting (graphOf t₁) ≡ wholeOf b
@@ -145,25 +169,34 @@ module _ (b : BoardTables) (h : Held b) (t₀ t₁ : Tables) (begin : Begun b t�
       let g : graphOf t ≡ wholeOf b .graph = ap (λ (u : Walk). u .graph) w in
       let size : length (graphOf t) ≡ t .n = length-graph (t .n) (linesOf t) (itemsOf (t .sources)) (itemsOf (t .sinks)) in
       let fits : leb (length (graphOf t)) 48 ≡ true = le-leb (length (graphOf t)) 48 (omega (arith, o .0 .linked .nodes)) in
-      let names : padded 48 255 (namesOf (graphOf t)) ≡ t .names = names-held t long (o .0 .linked .nodes) (o .0 .blank) in
-      let lines : t .lines ≡ record { items = padded 128 noLine (textsFrom 0 (graphOf t)); count = length (textsFrom 0 (graphOf t)) } =
-      o .1 ∙ done .same .lines ∙ begin .lines ∙ lines-are b h ∙ ap (λ (u : Graph). record { items = padded 128 noLine (textsFrom 0 u); count = length (textsFrom 0 u) }) (sym g) in
-      let xs : sourcesFrom 0 (graphOf t) ≡ inOrder (t .n) (itemsOf (t .sources)) = sources-ordered (t .n) (linesOf t) (itemsOf (t .sources)) (itemsOf (t .sinks)) in
-      let ys : sinksFrom 0 (graphOf t) ≡ inOrder (t .n) (itemsOf (t .sinks)) = sinks-ordered (t .n) (linesOf t) (itemsOf (t .sources)) (itemsOf (t .sinks)) in
-      let made : tablesOf (dagOf (walkOf y)) ≡ r = e-of t r e size names lines xs ys in
-      rw (← w, fits)
-      (record {
-        graphs = rw e (ap (λ (u : Graph). ready (record { graph = u; cuts = t .cuts })) (done-graph t (o .0 .linked) lx ly));
-        whole = ap (λ (u : Tables). record { answer = Ready; graph = u }) (sym made);
-        linked = rw e (done-linked t (o .0 .linked) lx ly);
-      })
-    where
-      e-of : (t r : Tables) → r ≡ orderedOf t →
-          length (graphOf t) ≡ t .n → padded 48 255 (namesOf (graphOf t)) ≡ t .names →
-          t .lines ≡ record { items = padded 128 noLine (textsFrom 0 (graphOf t)); count = length (textsFrom 0 (graphOf t)) } →
-          sourcesFrom 0 (graphOf t) ≡ inOrder (t .n) (itemsOf (t .sources)) → sinksFrom 0 (graphOf t) ≡ inOrder (t .n) (itemsOf (t .sinks)) →
-          tablesOf (record { graph = graphOf t; cuts = t .cuts }) ≡ r
-      e-of t r e size names lines xs ys = cc (ap tableOf xs, ap tableOf ys)
+      let lines : t .lines ≡ linesIn (graphOf t) = o .1 ∙ done .same .lines ∙ begin .lines ∙ lines-are b h (wholeOf b .graph) (board-lined (boardOf b)) ∙ ap linesIn (sym g) in
+      rw (← w, fits) (answered t (o .0) long lx ly lines r e)
+
+  uncut-ready : (t : Tables) → SameGraph t₁ t → length (t .names) ≡ 48 → length (t .sources .items) ≡ 88 → length (t .sinks .items) ≡ 88 → (r : Tables) → r ≡ orderedOf t →
+      IsAnswer (uncut (complete (givenGraph (boardOf b)))) (record { answer = Ready; graph = r })
+  uncut-ready t o long lx ly r e =
+      let g : graphOf t ≡ complete (givenGraph (boardOf b)) = o .graph ∙ done .graph ∙ ap complete (begin .graph) in
+      let lines : t .lines ≡ linesIn (graphOf t) = o .lines ∙ done .same .lines ∙ begin .lines ∙ lines-are b h (complete (givenGraph (boardOf b))) (completed-lined (boardOf b)) ∙ ap linesIn (sym g) in
+      subst (λ (k : ℕ). IsAnswer (ready (record { graph = complete (givenGraph (boardOf b)); cuts = k })) (record { answer = Ready; graph = r })) (o .cuts)
+      (rw (← g) (answered t (o .sound) long lx ly lines r e))
+
+  -- cut or not
+  pub stage-ready : (cut ok : Bool) (t : Tables) → CutIf cut t₁ ok t → ok ≡ true → length (t .names) ≡ 48 → length (t .sources .items) ≡ 88 → length (t .sinks .items) ≡ 88 → (r : Tables) → r ≡ orderedOf t →
+      IsAnswer (stage cut (complete (givenGraph (boardOf b)))) (record { answer = Ready; graph = r })
+  stage-ready true ok t o z long lx ly r e =
+      let a : CutTables t₁ true t = subst (λ (k : Bool). CutTables t₁ k t) z o in
+      drawn-ready (over t (a .standing)) (a .cut) long lx ly r e
+  stage-ready false ok t o z long lx ly r e = uncut-ready t (o .1) long lx ly r e
+
+  pub stage-refused : (cut ok : Bool) (t : Tables) → CutIf cut t₁ ok t → ok ≡ false → (r : Outcome) → IsAnswer (refusal 13 0) r → IsAnswer (stage cut (complete (givenGraph (boardOf b)))) r
+  stage-refused true ok t o z r a =
+      let k : CutTables t₁ false t = subst (λ (j : Bool). CutTables t₁ j t) z o in
+      drawn-refused (over t (k .standing)) (k .cut) r a
+  stage-refused false ok t o z r a = absurd (true≢false (sym (o .0) ∙ z))
+
+  pub stage-roomy : (cut ok : Bool) (t : Tables) → CutIf cut t₁ ok t → ok ≡ true → Roomy t
+  stage-roomy true ok t o z = let a : CutTables t₁ true t = subst (λ (k : Bool). CutTables t₁ k t) z o in a .cut .0
+  stage-roomy false ok t o z = o .1 .sound
 
 -- ---- the answer of `chart::read`
 module _ (s : List ℕ) (o : BoardOutcome) (promised : IsRead s o) where
@@ -185,13 +218,11 @@ module _ (s : List ℕ) (o : BoardOutcome) (promised : IsRead s o) where
         whole = ap (λ (p : BoardOutcome). p .board) (is .whole ∙ ap readOf (read-ready e));
       }
 
-  pub graph-ready : o .answer ≡ Ready → (r : Outcome) → IsAnswer (boxed (wholeOf (o .board))) r → IsAnswer (graphed s) r
-  unfolding graphed
-  graph-ready e r a = rw (read-ready e) a
+  pub stage-read : (cut : Bool) → o .answer ≡ Ready → (r : Outcome) → IsAnswer (stage cut (complete (givenGraph (boardOf (o .board))))) r → IsAnswer (staged cut (chart s)) r
+  stage-read cut e r a = rw (read-ready e) a
 
-  pub graph-refused : (a c : ℕ) → o .answer ≡ Refused a c → (r : Outcome) → IsAnswer (refusal a c) r → IsAnswer (graphed s) r
-  unfolding graphed
-  graph-refused a c e r x = rw (read-refused a c e) x
+  pub stage-not : (cut : Bool) (a c : ℕ) → o .answer ≡ Refused a c → (r : Outcome) → IsAnswer (refusal a c) r → IsAnswer (staged cut (chart s)) r
+  stage-not cut a c e r x = rw (read-refused a c e) x
 
 -- ---- a refused chart
 pub none-answers : (a c : ℕ) (t : Tables) → t ≡ noNodes → IsAnswer (refusal a c) (record { answer = Refused a c; graph = t })

@@ -8,10 +8,11 @@ use mathlib.Core.List.{List, [], _∷_, _++_, map}
 use lib.ListN.{length, getD, set, drop, length-map, List·getD-map}
 use lib.Seq.{map-set-same}
 use Rattle.laws.specs.Lists.{one}
+use Rattle.laws.proofs.Tests.{pick}
 use Rattle.graph.specs.Graph.{Edge, Node, Graph, noText, noEdge, bare, nodeAt, leadsTo, hasMarked, withSources, withSinks}
 use Rattle.graph.specs.Completion.{gainSource, completeSinks, marked, gainSink, completeSources, complete}
 use Rattle.graph.specs.Laws.{SinkAt}
-use Rattle.graph.proofs.Keeps.{pick, complete-keeps}
+use Rattle.graph.proofs.Keeps.{complete-keeps}
 
 -- the first of what is left of a list
 pub drop-head : {A : Type 0} (xs : List A) (i : ℕ) (x : A) (ys : List A) (d : A) → drop i xs ≡ x ∷ ys → (i < length xs) × (getD xs i d ≡ x) × (drop (suc i) xs ≡ ys)
@@ -62,7 +63,7 @@ pub record SourceAt (g : Graph) (p j : ℕ) (e : Edge) : Type 0 where
 
 module _ (n : ℕ) (P : Graph → Type 0)
     (gain-source : (g : Graph) (p i q : ℕ) → p < n → SinkAt g p i q → P g → P (gainSource g p i q)) where
-  sinks-hold : (es : List Edge) (g : Graph) (p i : ℕ) → p < n → drop i (nodeAt g p .sinks) ≡ es → P g → P (completeSinks g p i es)
+  pub sinks-hold : (es : List Edge) (g : Graph) (p i : ℕ) → p < n → drop i (nodeAt g p .sinks) ≡ es → P g → P (completeSinks g p i es)
   sinks-hold [] g p i l e h = h
   sinks-hold (x ∷ es) g p i l e h =
       let f = drop-head (nodeAt g p .sinks) i x es noEdge e in

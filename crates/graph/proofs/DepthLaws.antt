@@ -9,12 +9,13 @@ use lib.Dec.{eqb, ltb}
 use lib.ListN.{length, getD, set, replicate, length-replicate, List·getD-eq-default}
 use borrow.Author.Tests.{eqb-true, ltb-true, ltb-false}
 use Rattle.laws.specs.Each.{each}
+use Rattle.laws.proofs.Tests.{pick}
 use Rattle.graph.specs.Graph.{Edge, Graph, noEdge, nodeAt, degree, none?}
 use Rattle.graph.specs.Cutting.{Walk, markSinks, markFrom, markRoot, reached, cut, seeing, look, exploreSinks, exploreFrom, start, beginning, cutting, unseen, onPath, explored, seenAt}
 use Rattle.graph.specs.code.Path.{unseens}
 use Rattle.graph.proofs.Lists.{unseens-le, unseens-set, unseens-fall, unseens-append}
 use Rattle.graph.proofs.Steps.{mark-seen}
-use Rattle.graph.proofs.Keeps.{pick, reached-long}
+use Rattle.graph.proofs.Keeps.{reached-long}
 
 seen-in : (v : List ℕ) (p : ℕ) → seenAt v p ≡ 0 → (b : Bool) → ltb p (length v) ≡ b → p < length v
 seen-in v p e true t = ltb-true p (length v) t

@@ -1,4 +1,4 @@
--- The laws of a graph that is drawn, together, and the contract of `graph`.
+-- The laws of a completed graph, and of one that is drawn, together, and the contract of `graph`.
 -- Assumes nothing.
 use Prim.Native.Nat.{ℕ, zero, suc, _+_, _-_, _≤_, _<_}
 use native.Mathlib.Omega.{arith}
@@ -12,6 +12,7 @@ use lib.Seq.{getD-append-add}
 use borrow.Author.Tests.{leb-true}
 use Rattle.laws.specs.Lists.{All, one, flat, padded}
 use Rattle.laws.proofs.Lists.{all-map, all-join, all-flat}
+use Rattle.laws.proofs.Tests.{pick}
 use Rattle.chart.specs.declared.Answer.{Answer}
 use Rattle.chart.specs.declared.Answer.the-variants.{Ready, Refused}
 use Rattle.chart.specs.Chart.{Part, End, Board, endsOf, Reading, ready as accepted, refusal as refused, chart}
@@ -28,13 +29,15 @@ use Rattle.graph.specs.Cutting.{Walk, turned, pointed, firstNode, second
 use Rattle.graph.specs.Graphed.{Dag, dagOf, ready, refusal, boxed, drawn, graphed}
 use Rattle.graph.specs.code.Tables.{itemsOf, Linked}
 use Rattle.graph.specs.Laws.{Aimed, SinkAt, Names, Marked, Unmarked, ends, Named, Laws, Walks}
+use Rattle.graph.specs.Completed.{CompletedLaws}
 use Rattle.graph.specs.Outcome.{heldMark, itemOf, sourcesFrom, sinksFrom, textsFrom, nameOf, namesOf, tablesOf, outcomeOf, IsGraph}
 use Rattle.graph.specs.code.Graphs.{noNodes, dagIn, graphedOf, Sound, Graphs, IsAnswer}
-use Rattle.graph.proofs.Keeps.{pick, cutting-keeps}
+use Rattle.graph.proofs.Keeps.{cutting-keeps}
 use Rattle.graph.proofs.Completes.{SourceAt, complete-holds}
-use Rattle.graph.proofs.LineLaws.{linesIn, complete-length, Lined, board-lined}
+use Rattle.graph.proofs.LineLaws.{linesIn, complete-length, Lined, givenLines, given-lines, completed-lined, board-lined}
 use Rattle.graph.proofs.AimLaws.{all-set, all-at, all-in, cutting-aims, cutting-count}
 use Rattle.graph.proofs.MarkLaws.{Good, complete-good, cutting-marks}
+use Rattle.graph.proofs.MutualLaws.{complete-mutual}
 use Rattle.graph.proofs.TextLaws.{complete-texts, cutting-texts}
 use Rattle.graph.proofs.RoomLaws.{few-sources, few-sinks, cutting-ends}
 use Rattle.graph.proofs.DepthLaws.{reached-enough, cutting-enough}
@@ -72,10 +75,11 @@ plain-cut g c s l a =
     let a₂ : Unmarked g₂ = all-set PlainSinks g₁ (e .to) _ (plain-at g₁ (e .to) a₁) a₁ in
     all-join PlainSinks g₂ (firstNode c s (e .to) ∷ secondNode (e .to) ∷ []) a₂ (tt, ((refl, tt), tt))
 
-pub plain-whole : (g : Graph) → Unmarked g → Unmarked (cutting (complete g) .graph)
-plain-whole g a =
-    let b : Unmarked (complete g) = complete-holds (length g) Unmarked (plain-source (length g)) (plain-sink (length g)) g refl a in
-    cutting-keeps (length (complete g)) (λ w. Unmarked (w .graph)) (λ w c x h. h) (λ w c s hc hs hq lo h. plain-cut (w .graph) c s hs h) (complete g) refl b .keeps
+plain-completed : (g : Graph) → Unmarked g → Unmarked (complete g)
+plain-completed g a = complete-holds (length g) Unmarked (plain-source (length g)) (plain-sink (length g)) g refl a
+
+plain-whole : (g : Graph) → Unmarked g → Unmarked (cutting g .graph)
+plain-whole g a = cutting-keeps (length g) (λ w. Unmarked (w .graph)) (λ w c x h. h) (λ w c s hc hs hq lo h. plain-cut (w .graph) c s hs h) g refl a .keeps
 
 -- ---- the given graph
 ends-plain : (es : List End) → All Plain (map unmarked es)
@@ -115,21 +119,17 @@ given-ends (p ∷ ps) = omega (arith, given-ends ps, length-map (p .sources) unm
 lines-at : (g : Graph) (k : ℕ) → nodeAt g k .lines ≡ getD (linesIn g) k []
 lines-at g k = sym (List·getD-map (λ (x : Node). x .lines) g k bare)
 
-module _ (ps : Board) (g : Graph) (l : Lined (length ps) (map (λ (p : GivenNode). map given (p .lines)) ps) g) where
+module _ (ps : Board) (g : Graph) (l : Lined (length ps) (givenLines ps) g) where
   abbrev ls : List (List Line)
-  ls = map (λ (p : GivenNode). map given (p .lines)) ps
+  ls = givenLines ps
 
   size : length ls ≡ length ps
   size = length-map ps (λ (p : GivenNode). map given (p .lines))
 
-  given-ls : (qs : Board) → linesIn (givenGraph qs) ≡ map (λ (p : GivenNode). map given (p .lines)) qs
-  given-ls [] = refl
-  given-ls (q ∷ qs) = cc (given-ls qs)
-
   pub lines-kept : (k : ℕ) → k < length ps → nodeAt g k .lines ≡ nodeAt (givenGraph ps) k .lines
   lines-kept k h =
       lines-at g k ∙ ap (λ (m : List (List Line)). getD m k []) (l .lines) ∙ List·getD-append ls (l .rest) [] k (omega (arith, size))
-      ∙ ap (λ (m : List (List Line)). getD m k []) (sym (given-ls ps)) ∙ sym (lines-at (givenGraph ps) k)
+      ∙ ap (λ (m : List (List Line)). getD m k []) (sym (given-lines ps)) ∙ sym (lines-at (givenGraph ps) k)
 
   pub lines-new : (k : ℕ) → length ps ≤ k → k < length g → Named (length ps) (nodeAt g k .lines)
   lines-new k h m =
@@ -144,54 +144,75 @@ boxed-ready : (w : Walk) (d : Dag) → (b : Bool) → leb (length (w .graph)) 48
 boxed-ready w d true t e = (cc, leb-true (length (w .graph)) 48 t)
 boxed-ready w d false t e = let z : _≡_ {A = ℕ} 0 1 = cc in absurd (omega arith)
 
-module _ (s : List ℕ) (ps : Board) (r : chart s ≡ accepted ps) (d : Dag) (e : boxed (cutting (complete (givenGraph ps))) ≡ ready d) where
+module _ (s : List ℕ) (ps : Board) (r : chart s ≡ accepted ps) where
   abbrev a : Accepted s ps
   a = accepts s ps r
 
+  abbrev g₀ : Graph
+  g₀ = givenGraph ps
+
   abbrev g : Graph
-  g = complete (givenGraph ps)
-
-  abbrev w : Walk
-  w = cutting g
-
-  abbrev is : (d ≡ dagOf w) × (length (w .graph) ≤ 48)
-  is = boxed-ready w d (leb (length (w .graph)) 48) refl e
+  g = complete g₀
 
   long : length g ≡ length ps
-  long = complete-length (givenGraph ps) ∙ length-map ps givenNode
+  long = complete-length g₀ ∙ length-map ps givenNode
+
+  given-good : Good (length ps) g₀
+  given-good = record { long = length-map ps givenNode; aimed = given-aimed s (length ps) ps (a .formed); marks = given-marks ps }
 
   good : Good (length ps) g
-  good =
-      complete-good (length ps) (givenGraph ps)
-      (record { long = length-map ps givenNode; aimed = given-aimed s (length ps) ps (a .formed); marks = given-marks ps })
+  good = complete-good (length ps) g₀ given-good
 
-  first : Good (length (givenGraph ps)) (givenGraph ps)
-  first = rw (length-map ps givenNode) (record { long = length-map ps givenNode; aimed = given-aimed s (length ps) ps (a .formed); marks = given-marks ps })
+  first : Good (length g₀) g₀
+  first = rw (length-map ps givenNode) given-good
 
-  given-few : ends (λ (x : Node). x .sources) (givenGraph ps) + ends (λ (x : Node). x .sinks) (givenGraph ps) ≤ 64
+  given-few : ends (λ (x : Node). x .sources) g₀ + ends (λ (x : Node). x .sinks) g₀ ≤ 64
   given-few = omega (arith, given-ends ps, a .ends)
 
-  gathered : Laws s (dagOf w)
-  gathered =
+  -- completed, and not cut
+  pub completed-laws : CompletedLaws s (givenGraph ps) (complete (givenGraph ps))
+  completed-laws =
       record {
-        board = ps;
-        read = r;
-        walk = refl;
-        given = a .count;
-        nodes = omega (arith, cutting-count g, long);
-        boxes = is .1;
-        aimed = cutting-aims g (rw long (good .aimed));
-        sources = omega (arith, few-sources (givenGraph ps) 64 first given-few, cutting-ends g .0, cutting-count g, is .1);
-        sinks = omega (arith, few-sinks (givenGraph ps) 64 first given-few, cutting-ends g .1, cutting-count g, is .1);
-        marks = cutting-marks g (good .marks);
-        unmarked = plain-whole (givenGraph ps) (given-plain ps);
-        lines = lines-kept ps (w .graph) (board-lined ps);
-        texts = λ i l. cutting-texts (givenGraph ps) g (complete-texts (givenGraph ps)) i (rw long l);
-        inserted = lines-new ps (w .graph) (board-lined ps);
+        nodes = long ∙ a .count;
+        few = omega (arith, long, a .nodes);
+        aimed = rw long (good .aimed);
+        both = complete-mutual g₀ (first .aimed);
+        sources = few-sources g₀ 64 first given-few;
+        sinks = few-sinks g₀ 64 first given-few;
+        marks = good .marks;
+        unmarked = plain-completed g₀ (given-plain ps);
+        lines = λ k h. lines-kept ps g (completed-lined ps) k (omega (arith, long));
+        texts = λ k h. complete-texts g₀ k;
       }
 
-  pub board-laws : Laws s d
-  board-laws = subst (Laws s) (sym (is .0)) gathered
+  module _ (d : Dag) (e : boxed (cutting (complete (givenGraph ps))) ≡ ready d) where
+    abbrev w : Walk
+    w = cutting g
+
+    abbrev is : (d ≡ dagOf w) × (length (w .graph) ≤ 48)
+    is = boxed-ready w d (leb (length (w .graph)) 48) refl e
+
+    gathered : Laws s (dagOf w)
+    gathered =
+        record {
+          board = ps;
+          read = r;
+          walk = refl;
+          given = a .count;
+          nodes = omega (arith, cutting-count g, long);
+          boxes = is .1;
+          aimed = cutting-aims g (completed-laws .aimed);
+          sources = omega (arith, completed-laws .sources, cutting-ends g .0, cutting-count g, is .1);
+          sinks = omega (arith, completed-laws .sinks, cutting-ends g .1, cutting-count g, is .1);
+          marks = cutting-marks g (good .marks);
+          unmarked = plain-whole g (completed-laws .unmarked);
+          lines = lines-kept ps (w .graph) (board-lined ps);
+          texts = λ i l. cutting-texts g₀ g (complete-texts g₀) i (rw long l);
+          inserted = lines-new ps (w .graph) (board-lined ps);
+        }
+
+    pub board-laws : Laws s d
+    board-laws = subst (Laws s) (sym (is .0)) gathered
 
 -- the walks of a board: no depth is used up
 pub board-walks : (ps : Board) → Walks ps
@@ -247,7 +268,7 @@ pub given-name : (ts : List Part) → nameOf (map given ts) ≡ 255
 given-name [] = refl
 given-name (t ∷ ts) = given-name ts
 
-names-from : (n : ℕ) → n ≤ 32 → (ps : Board) (rest : List (List Line)) → All (Named n) rest → All Name (map nameOf (map (λ (p : GivenNode). map given (p .lines)) ps ++ rest))
+names-from : (n : ℕ) → n ≤ 32 → (ps : Board) (rest : List (List Line)) → All (Named n) rest → All Name (map nameOf (givenLines ps ++ rest))
 names-from n l [] [] a = tt
 names-from n l [] (k ∷ rest) a = (λ o. rw (a .0 .line) (omega (arith, a .0 .inside)), names-from n l [] rest (a .1))
 names-from n l (p ∷ ps) rest a = (λ o. absurd (o (given-name (p .lines))), names-from n l ps rest a)
@@ -276,12 +297,12 @@ module _ (s : List ℕ) (t : Tables) (b : Linked t) (e : t ≡ tablesOf (dagIn t
     few : t .lines .count ≤ 128
     few =
         let z : length (textsFrom 0 u) ≡ length (textsFrom 0 (cutting (complete (givenGraph (l .board))) .graph)) = ap (λ (c : Dag). length (textsFrom 0 (c .graph))) (l .walk) in
-        omega (arith, ap (λ (y : Tables). y .lines .count) e, z, few-lines s (l .board) (l .read))
+        omega (arith, ap (λ (y : Tables). y .lines .count) e, z, few-lines s (l .board) (l .read) _ (board-lined (l .board)))
 
     names : All Name (t .names)
     names =
-        let m : Lined (length (l .board)) (map (λ (p : GivenNode). map given (p .lines)) (l .board)) (cutting (complete (givenGraph (l .board))) .graph) = board-lined (l .board) in
-        let z : namesOf u ≡ map nameOf (map (λ (p : GivenNode). map given (p .lines)) (l .board) ++ m .rest) = ap (λ (c : Dag). namesOf (c .graph)) (l .walk) ∙ map-names (cutting (complete (givenGraph (l .board))) .graph) ∙ ap (map nameOf) (m .lines) in
+        let m : Lined (length (l .board)) (givenLines (l .board)) (cutting (complete (givenGraph (l .board))) .graph) = board-lined (l .board) in
+        let z : namesOf u ≡ map nameOf (givenLines (l .board) ++ m .rest) = ap (λ (c : Dag). namesOf (c .graph)) (l .walk) ∙ map-names (cutting (complete (givenGraph (l .board))) .graph) ∙ ap (map nameOf) (m .lines) in
         rw (ap (λ (y : Tables). y .names) e)
         (all-padded Name 48 255 (namesOf u) (λ o. absurd (o refl)) (rw z (names-from (length (l .board)) (accepts s (l .board) (l .read) .nodes) (l .board) (m .rest) (m .named))))
 

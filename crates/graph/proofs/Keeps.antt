@@ -10,19 +10,11 @@ use lib.ListN.{length, getD, set, replicate, length-set, length-replicate, List�
 use lib.Seq.{getD-set-other}
 use borrow.Author.Tests.{eqb-true, ltb-true, ltb-false}
 use Rattle.laws.proofs.Each.{each-keeps}
+use Rattle.laws.proofs.Tests.{pick, pick-by}
 use Rattle.graph.specs.Graph.{Edge, Graph, noEdge, nodeAt, degree, none?}
 use Rattle.graph.specs.Completion.{gainSource, completeSinks, gainSink, completeSources, completeNode, complete}
 use Rattle.graph.specs.Cutting.{Walk, markSinks, markFrom, markRoot, reached, cut, seeing, look, exploreSinks, exploreFrom, start, beginning, cutting, unseen, onPath, explored, seenAt}
 use Rattle.graph.proofs.Resumes.{Grows, from-grown, look-grown, cut-grown}
-
-pub pick : {A : Type 0} (P : A → Type 0) (b : Bool) (x y : A) → P x → P y → P (cond b x y)
-pick P true x y p q = p
-pick P false x y p q = q
-
--- the same where the test's answer is known in each case
-pub pick-by : {A : Type 0} (P : A → Type 0) (b : Bool) (x y : A) → (b ≡ true → P x) → (b ≡ false → P y) → P (cond b x y)
-pick-by P true x y p q = p refl
-pick-by P false x y p q = q refl
 
 -- ---- completion
 pub complete-keeps : (P : Graph → Type 0) (g : Graph) → ((p : ℕ) (h : Graph) → p < length g → P h → P (completeNode h p)) → P g → P (complete g)

@@ -17,6 +17,7 @@ pub mod Begins
 pub mod Completes
 pub mod AimLaws
 pub mod MarkLaws
+pub mod MutualLaws
 pub mod TextLaws
 pub mod DepthLaws
 pub mod Gathers
@@ -25,3 +26,4 @@ pub mod CountLaws
 pub mod EndsLaws
 pub mod Tabled
 pub mod Empty
+pub mod Stages

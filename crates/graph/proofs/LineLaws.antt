@@ -8,13 +8,14 @@ use lib.ListN.{length, set, length-map}
 use lib.Seq.{map-set-same}
 use Rattle.laws.specs.Lists.{All, one}
 use Rattle.laws.proofs.Lists.{all-join}
+use Rattle.laws.proofs.Tests.{pick}
 use Rattle.chart.specs.Chart.{Board}
 use Rattle.chart.specs.Chart.{Node as GivenNode}
 use Rattle.graph.specs.Graph.{Line, given, number, Edge, Node, Graph, noText, bare, givenNode, givenGraph, nodeAt, leadsTo, hasMarked, withSources, withSinks}
 use Rattle.graph.specs.Completion.{gainSource, marked, gainSink, complete}
 use Rattle.graph.specs.Cutting.{Walk, turned, pointed, firstNode, secondNode, cutGraph, cut, cutting}
 use Rattle.graph.specs.Laws.{Named}
-use Rattle.graph.proofs.Keeps.{pick, steps-keep, cutting-keeps}
+use Rattle.graph.proofs.Keeps.{steps-keep, cutting-keeps}
 
 -- what a change of sources and sinks leaves alone
 module _ {A : Type 0} (f : Node → A) (sourced : (n : Node) (es : List Edge) → f (record { sources = es; lines = n .lines; sinks = n .sinks }) ≡ f n) (sunk : (n : Node) (es : List Edge) → f (record { sources = n .sources; lines = n .lines; sinks = es }) ≡ f n) where
@@ -78,13 +79,19 @@ module _ (n : ℕ) (ls : List (List Line)) where
       cutting-keeps n (λ w. Lined n ls (w .graph)) (λ w c x l. l) (λ w c s hc hs h lo l. lined-cut w c s _ h l) g e
       (record { rest = []; lines = i ∙ sym (append-nil ls); named = tt }) .keeps
 
--- the graph of a board
-pub board-lined : (ps : Board) → Lined (length ps) (map (λ (p : GivenNode). map given (p .lines)) ps) (cutting (complete (givenGraph ps)) .graph)
+-- ---- the graph of a board
+abbrev pub givenLines : Board → List (List Line)
+givenLines ps = map (λ (p : GivenNode). map given (p .lines)) ps
+
+pub given-lines : (ps : Board) → linesIn (givenGraph ps) ≡ givenLines ps
+given-lines [] = refl
+given-lines (p ∷ ps) = cc (given-lines ps)
+
+pub completed-lined : (ps : Board) → Lined (length ps) (givenLines ps) (complete (givenGraph ps))
+completed-lined ps = record { rest = []; lines = complete-lines (givenGraph ps) ∙ given-lines ps ∙ sym (append-nil (givenLines ps)); named = tt }
+
+pub board-lined : (ps : Board) → Lined (length ps) (givenLines ps) (cutting (complete (givenGraph ps)) .graph)
 board-lined ps =
-    cutting-lined (length ps) (map (λ (p : GivenNode). map given (p .lines)) ps) (complete (givenGraph ps))
+    cutting-lined (length ps) (givenLines ps) (complete (givenGraph ps))
     (complete-length (givenGraph ps) ∙ length-map ps givenNode)
-    (complete-lines (givenGraph ps) ∙ both ps)
-  where
-    both : (ps : Board) → linesIn (givenGraph ps) ≡ map (λ (p : GivenNode). map given (p .lines)) ps
-    both [] = refl
-    both (p ∷ ps) = cc (both ps)
+    (complete-lines (givenGraph ps) ∙ given-lines ps)

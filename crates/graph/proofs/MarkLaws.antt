@@ -13,11 +13,12 @@ use lib.Seq.{getD-set-same, getD-set-other, getD-append-seam, getD-append-add, m
 use borrow.Author.Tests.{eqb-false, ltb-true, ltb-false}
 use Rattle.laws.specs.Lists.{All, one}
 use Rattle.laws.proofs.Lists.{all-map, all-join, all-made}
+use Rattle.laws.proofs.Tests.{pick, pick-by}
 use Rattle.graph.specs.Graph.{Edge, Node, Graph, noText, noEdge, bare, nodeAt, degree, leadsTo, hasMarked, withSources, withSinks}
 use Rattle.graph.specs.Completion.{gainSource, marked, gainSink, complete}
 use Rattle.graph.specs.Cutting.{turned, pointed, firstNode, secondNode, cutGraph, cutting}
 use Rattle.graph.specs.Laws.{Leads, Aimed, SinkAt, Names, Marked}
-use Rattle.graph.proofs.Keeps.{pick, pick-by, cutting-keeps}
+use Rattle.graph.proofs.Keeps.{cutting-keeps}
 use Rattle.graph.proofs.Completes.{SourceAt, sinks-at, complete-holds}
 use Rattle.graph.proofs.AimLaws.{To, all-set, all-in, node-aims, gain-sink-aims}
 

@@ -16,11 +16,12 @@ use lib.Seq.{map-set-same, getD-append-seam, drop-cons}
 use borrow.Author.Tests.{eq-eqb, ltb-true, ltb-false}
 use Rattle.laws.proofs.Each.{each-holds}
 use Rattle.laws.specs.Lists.{one, tally}
+use Rattle.laws.proofs.Tests.{pick, pick-by}
 use Rattle.graph.specs.Graph.{Edge, Node, Graph, noText, noEdge, bare, nodeAt, degree, isMark, leadsTo, hasMarked, withSources, withSinks}
 use Rattle.graph.specs.Completion.{gainSource, completeSinks, marked, gainSink, completeNode, complete}
 use Rattle.graph.specs.Cutting.{turned, pointed, firstNode, secondNode, cutGraph, cutting}
 use Rattle.graph.specs.Laws.{SinkAt, Names, ends}
-use Rattle.graph.proofs.Keeps.{pick, pick-by, cutting-keeps}
+use Rattle.graph.proofs.Keeps.{cutting-keeps}
 use Rattle.graph.proofs.Pairs.{false-true, or-mono, or-right, and-false}
 use Rattle.graph.proofs.Completes.{unmark, SourceAt, sourcesIn, sinks-at, gain-source-sinks, gain-sink-sources, sources-hold, drop-head}
 use Rattle.graph.proofs.AimLaws.{To, all-in, node-aims}

@@ -19,7 +19,7 @@ use Rattle.graph.specs.declared.cutting.Look.{Look}
 use Rattle.graph.specs.Graph.{Node, Graph, none?}
 use Rattle.graph.specs.Cutting.{Walk, markFrom, markRoot, reached, seenAt, exploreFrom, start, beginning, cutting}
 use Rattle.graph.specs.code.Tables.{owned, itemsOf, linesOf, graphOf, Roomy}
-use Rattle.graph.specs.code.Explore.{Explore, walkOf, Ready, Walked}
+use Rattle.graph.specs.code.Explore.{Explore, walkOf, Ready, Walked, SameGraph}
 use Rattle.graph.proofs.Lists.{node-graph, unseens-le}
 use Rattle.graph.proofs.Cuts.{length-graph}
 use Rattle.graph.proofs.Resumes.{Grown, grown-refl, grown-trans, from-grown}
@@ -132,6 +132,13 @@ start-first t b cu sn all e fs =
       within = omega arith;
       rest = rw (e, cu);
     }
+
+-- with no start the tables hold the graph that they held
+pub start-none : (t : Tables) (s : Explore) (p : ℕ) → Started t s p → p ≡ 0 → SameGraph t (s .tables)
+unfolding each
+start-none t s p l e =
+    let w : walkOf s ≡ beginning (graphOf t) = l .rest ∙ ap (before (t .n) (beginning (graphOf t))) e in
+    record { sound = l .ready .sound; graph = ap (λ (u : Walk). u .graph) w; cuts = ap (λ (u : Walk). u .cuts) w; lines = l .lines }
 
 pub start-last : (t : Tables) (s : Explore) (p : ℕ) → Started t s p → t .n ≤ p → walkOf s ≡ cutting (graphOf t)
 start-last t s p l h =

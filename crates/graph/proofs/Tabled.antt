@@ -1,19 +1,19 @@
--- The tables of a drawn graph hold that graph. So what the crates above take (`Graphs`) follows from the promise of `graph`.
+-- The tables of a drawn graph, and of a completed one, hold that graph. So what the crates above take follows from the promises of `graph` (`Graphs`) and `completed`.
 -- Assumes nothing.
 use Prim.Native.Nat.{ℕ, _+_, _-_, _%_, _≤_, _<_}
 use native.Mathlib.Omega.{arith}
 use native.Mathlib.Nat.{mod-eq-of-lt, zero-add}
-use mathlib.Core.Path.{_≡_, refl, ap, sym, _∙_}
+use mathlib.Core.Path.{_≡_, refl, ap, _∙_}
 use mathlib.Core.Bool.{Bool, true, false}
 use mathlib.Core.Option.{Option, none, some}
 use mathlib.Core.List.{List, [], _∷_, _++_, map, append-nil}
 use lib.Dec.{ltb}
-use lib.ListN.{length, getD, take, List·getD-map, List·getD-eq-default}
+use lib.ListN.{length, getD, length-map, List·getD-map, List·getD-eq-default}
 use borrow.Author.Tests.{ltb-true, ltb-false, ne-eqb}
-use Rattle.laws.specs.Lists.{All, one, padded}
+use Rattle.laws.specs.Lists.{All, one}
 use Rattle.laws.proofs.Lists.{all-map, all-flat, owned-flat, tabulate-list, getD-tabulate, getD-padded, take-padded}
 use Rattle.chart.specs.declared.Line.{Line as LineItem}
-use Rattle.chart.specs.Chart.{Part, Board}
+use Rattle.chart.specs.Chart.{Part, Board, Reading, ready as accepted, refusal as refused, chart}
 use Rattle.chart.specs.Chart.{Node as GivenNode}
 use Rattle.chart.specs.Tables.{noLine, lineOf}
 use Rattle.chart.specs.code.Filled.{partOf, ownedLines, linesOf as textsOf}
@@ -26,10 +26,12 @@ use Rattle.graph.specs.Graph.{Line, given, number, Edge, Node, Graph, ba
 use Rattle.graph.specs.Completion.{complete}
 use Rattle.graph.specs.Cutting.{cutting}
 use Rattle.graph.specs.Graphed.{Dag, Graphed, ready, refusal, graphed}
-use Rattle.graph.specs.Laws.{Named, Laws}
+use Rattle.graph.specs.Laws.{Aimed, ends, Named, Laws}
+use Rattle.graph.specs.Completed.{completing, completed, CompletedLaws, IsCompleted}
 use Rattle.graph.specs.code.Tables.{markOf, edgeOf, owned, itemsOf, nodeOf, numberLine, linesAt, linesOf, graphFrom, graphOf, Linked}
 use Rattle.graph.specs.Outcome.{heldMark, itemOf, sourcesFrom, sinksFrom, textsIn, textsFrom, nameOf, namesOf, tablesOf, outcomeOf, IsGraph}
 use Rattle.graph.specs.code.Graphs.{noNodes, Graphs, IsAnswer}
+use Rattle.graph.proofs.LineLaws.{complete-length, completed-lined, board-lined}
 use Rattle.graph.proofs.AimLaws.{all-in}
 use Rattle.graph.proofs.Orders.{table-back}
 use Rattle.graph.proofs.Begins.{few-lines, none-answers}
@@ -71,8 +73,19 @@ number-back q h = let n : (q ≡ 255 → ⊥) = λ e. omega arith in rw (ne-eqb 
 abbrev nobody : GivenNode
 nobody = record { sources = []; lines = []; sinks = [] }
 
--- ---- the graph of the chart s
-module _ (s : List ℕ) (d : Dag) (l : Laws s d) where
+-- ---- a graph of the chart s that fits the tables
+record Fits (s : List ℕ) (d : Dag) : Type 0 where
+  board : Board
+  read : chart s ≡ accepted board
+  boxes : length (d .graph) ≤ 48
+  aimed : Aimed (length (d .graph)) (d .graph)
+  sources : ends (λ (x : Node). x .sources) (d .graph) ≤ 88
+  sinks : ends (λ (x : Node). x .sinks) (d .graph) ≤ 88
+  texts : length (textsFrom 0 (d .graph)) ≤ 128
+  lines : (k : ℕ) → k < length board → nodeAt (d .graph) k .lines ≡ nodeAt (givenGraph board) k .lines
+  inserted : (k : ℕ) → length board ≤ k → k < length (d .graph) → Named (length board) (nodeAt (d .graph) k .lines)
+
+module _ (s : List ℕ) (d : Dag) (l : Fits s d) where
   abbrev g : Graph
   g = d .graph
 
@@ -119,11 +132,6 @@ module _ (s : List ℕ) (d : Dag) (l : Laws s d) where
   few-sinks : length (sinksFrom 0 g) ≤ 88
   few-sinks = omega (arith, flat-long (λ (x : Node). x .sinks) 0 g, l .sinks)
 
-  few-texts : length (textsFrom 0 g) ≤ 128
-  few-texts =
-      let z : length (textsFrom 0 g) ≡ length (textsFrom 0 (cutting (complete (givenGraph ps)) .graph)) = ap (λ (c : Dag). length (textsFrom 0 (c .graph))) (l .walk) in
-      omega (arith, few-lines s ps (l .read))
-
   sources-are : itemsOf (t .sources) ≡ sourcesFrom 0 g
   sources-are = table-back (sourcesFrom 0 g) few-sources
 
@@ -131,7 +139,7 @@ module _ (s : List ℕ) (d : Dag) (l : Laws s d) where
   sinks-are = table-back (sinksFrom 0 g) few-sinks
 
   texts-are : textsOf (t .lines) ≡ textsFrom 0 g
-  texts-are = take-padded 128 noLine (textsFrom 0 g) few-texts
+  texts-are = take-padded 128 noLine (textsFrom 0 g) (l .texts)
 
   -- ---- node i
   module _ (i : ℕ) (h : i < length g) where
@@ -179,13 +187,64 @@ module _ (s : List ℕ) (d : Dag) (l : Laws s d) where
         line-owners = rw texts-are (all-flat lineOf (λ (x : Node). textsIn (x .lines)) n Low (λ (x : LineItem). x .owner < n) (λ p e i k. i) 0 g (omega arith) lows);
       }
 
-  drawn-answers : IsAnswer (ready d) (outcomeOf (ready d))
-  drawn-answers = record { graphs = ap (λ (u : Graph). ready (record { graph = u; cuts = d .cuts })) graph-back; whole = refl; linked = linked }
+  fitting : IsAnswer (ready d) (outcomeOf (ready d))
+  fitting = record { graphs = ap (λ (u : Graph). ready (record { graph = u; cuts = d .cuts })) graph-back; whole = refl; linked = linked }
+
+-- ---- the graph that is drawn
+drawn-fits : (s : List ℕ) (d : Dag) → Laws s d → Fits s d
+drawn-fits s d l =
+    let z : length (textsFrom 0 (d .graph)) ≡ length (textsFrom 0 (cutting (complete (givenGraph (l .board))) .graph)) = ap (λ (c : Dag). length (textsFrom 0 (c .graph))) (l .walk) in
+    record {
+      board = l .board;
+      read = l .read;
+      boxes = l .boxes;
+      aimed = l .aimed;
+      sources = l .sources;
+      sinks = l .sinks;
+      texts = omega (arith, few-lines s (l .board) (l .read) _ (board-lined (l .board)));
+      lines = l .lines;
+      inserted = l .inserted;
+    }
 
 answers : (s : List ℕ) (v : Graphed) → graphed s ≡ v → IsAnswer v (outcomeOf v)
-answers s (ready d) e = drawn-answers s d (graph-laws s d e)
+answers s (ready d) e = fitting s d (drawn-fits s d (graph-laws s d e))
 answers s (refusal a b) e = none-answers a b noNodes refl
 
 -- what the crates above take from the promise of `graph`
 pub graphs-of : (s : List ℕ) (r : Outcome) → IsGraph s r → Graphs s r
 graphs-of s r i = is-graphs s r (rw (i .whole) (answers s (graphed s) refl))
+
+-- ---- the completed graph
+module _ (s : List ℕ) (r : Outcome) (i : IsCompleted s r) where
+  completed-fits : (ps : Board) → chart s ≡ accepted ps → Fits s (record { graph = complete (givenGraph ps); cuts = 0 })
+  completed-fits ps e =
+      let l : CompletedLaws s (givenGraph ps) (complete (givenGraph ps)) = i .laws ps e in
+      let long : length (complete (givenGraph ps)) ≡ length ps = complete-length (givenGraph ps) ∙ length-map ps givenNode in
+      record {
+        board = ps;
+        read = e;
+        boxes = omega (arith, l .few);
+        aimed = l .aimed;
+        sources = omega (arith, l .sources);
+        sinks = omega (arith, l .sinks);
+        texts = few-lines s ps e _ (completed-lined ps);
+        lines = λ k h. l .lines k (omega (arith, long));
+        inserted = λ k h m. absurd (omega (arith, long));
+      }
+
+  answers-by : (c : Reading) → chart s ≡ c → IsAnswer (completing c) (outcomeOf (completing c))
+  answers-by (accepted ps) e = fitting s (record { graph = complete (givenGraph ps); cuts = 0 }) (completed-fits ps e)
+  answers-by (refused a b) e = none-answers a b noNodes refl
+
+  few-by : (c : Reading) → chart s ≡ c → outcomeOf (completing c) .graph .n ≤ 32
+  few-by (accepted ps) e = i .laws ps e .few
+  few-by (refused a b) e = omega arith
+
+  -- what the crates above take from the promise of `completed`
+  pub completed-answers : IsAnswer (completed s) r
+  unfolding completed
+  completed-answers = rw (i .whole) (answers-by (chart s) refl)
+
+  pub completed-few : r .graph .n ≤ 32
+  unfolding completed
+  completed-few = rw (i .whole) (few-by (chart s) refl)

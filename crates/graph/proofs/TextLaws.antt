@@ -10,12 +10,13 @@ use lib.Dec.{eqb}
 use lib.ListN.{length, getD, set, replicate, length-set, List·getD-append}
 use lib.Seq.{map-set-same}
 use Rattle.laws.specs.Lists.{one}
+use Rattle.laws.proofs.Tests.{pick}
 use Rattle.chart.specs.Chart.{Part}
 use Rattle.graph.specs.Graph.{Edge, Node, Graph, noText, noEdge, bare, nodeAt, leadsTo, hasMarked, withSources, withSinks}
 use Rattle.graph.specs.Completion.{gainSource, marked, gainSink, complete}
 use Rattle.graph.specs.Cutting.{turned, pointed, cutGraph, cutting}
 use Rattle.graph.specs.Laws.{SinkAt, textsAt, Begins, Texts}
-use Rattle.graph.proofs.Keeps.{pick, cutting-keeps}
+use Rattle.graph.proofs.Keeps.{cutting-keeps}
 use Rattle.graph.proofs.Completes.{SourceAt, complete-holds}
 use Rattle.graph.proofs.MarkLaws.{node-set}
 

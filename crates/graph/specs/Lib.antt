@@ -8,4 +8,5 @@ pub mod Ends
 pub mod Laws
 pub mod Cases
 pub mod Outcome
+pub mod Completed
 pub mod code

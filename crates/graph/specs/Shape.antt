@@ -1,4 +1,4 @@
--- What modules 4 to 7 read of the cut graph: where each source and each sink leads. Marks, texts and lines have no part in them.
+-- What modules 4 to 7 read of the cut graph, and the signal order of the completed one: where each source and each sink leads. Marks, texts and lines have no part in them.
 -- Assumes nothing.
 use Prim.Native.Nat.{ℕ}
 use mathlib.Core.List.{List, [], map}

@@ -6,7 +6,7 @@ ghost use lib.ListN.{getD, set};
 ghost use Rattle.laws.specs.Lists.{one};
 ghost use Rattle.graph.specs.code.Tables.{itemsOf, pointItem, turnItem, sourceOf, sinkOf, Roomy};
 ghost use Rattle.graph.specs.Outcome.{noItem};
-ghost use Rattle.graph.specs.code.Explore.{IsFound, CutTables};
+ghost use Rattle.graph.specs.code.Explore.{IsFound, CutIf};
 use crate::Item;
 use crate::Table;
 use crate::Tables;
@@ -144,14 +144,16 @@ pub struct Went {
     pub tables: Tables,
 }
 
-// Every cycle that no root reaches is cut, unless that makes more than 48 nodes. The tables stand in variables of their own, for the memory.
+// Every cycle that no root reaches is cut, if asked, unless that makes more than 48 nodes. (Not asked, no node is a start: the way through is the same,
+// for the memory.) The tables stand in variables of their own, for the memory too.
 // The path is the first depth frames; one step: its last node looks at its next sink, or leaves the path.
-pub fn cut_cycles(t: Tables) -> Went
+pub fn cut_cycles(t: Tables, cut: bool) -> Went
     requires { ⌜ Roomy t ⌝ }
     requires { ⌜ t .cuts ≡ 0 ⌝ }
-    ensures { λ r. ⌜ CutTables t (r .ok) (r .tables) ⌝ }
+    ensures { λ r. ⌜ CutIf cut t (r .ok) (r .tables) ⌝ }
 {
     let given = t.n;
+    let starts = (cut as usize) * given;
     let mut seen = mark_roots(t);
     let mut n = given;
     let mut cuts = t.cuts;
@@ -160,7 +162,7 @@ pub fn cut_cycles(t: Tables) -> Went
     let mut sinks = t.sinks;
     let mut frames = [Look { node: 0, sink: 0 }; 48];
     let mut p: usize = 0;
-    while p < given {
+    while p < starts {
         let at = p;
         p += 1;
         if seen[at] == 0 {

@@ -1,13 +1,14 @@
-// Document 01, modules 2 and 3: the graph of a chart, completed and cut, as tables of records, each record with the node that owns it.
+// Document 01, modules 2 and 3: the graph of a chart, completed, and cut or not, as tables of records, each record with the node that owns it.
 // A node's list is its records in table order.
 ghost use mathlib.Core.Path.{_≡_};
+ghost use Rattle.chart.specs.Chart.{chart as chartOf};
 ghost use Rattle.chart.specs.code.Filled.{boardOf};
 ghost use Rattle.graph.specs.Graph.{givenGraph};
 ghost use Rattle.graph.specs.Completion.{complete};
-ghost use Rattle.graph.specs.Cutting.{cutting};
-ghost use Rattle.graph.specs.Graphed.{boxed, refusal};
+ghost use Rattle.graph.specs.Graphed.{refusal};
 ghost use Rattle.graph.specs.Outcome.{IsGraph};
-ghost use Rattle.graph.specs.code.Graphs.{Held, IsAnswer};
+ghost use Rattle.graph.specs.Completed.{IsCompleted};
+ghost use Rattle.graph.specs.code.Graphs.{stage, staged as stagedOf, Held, IsAnswer};
 ghost use Rattle.graph.specs.Ends.{endsIn};
 use chart::Answer;
 use chart::Board;
@@ -62,14 +63,14 @@ fn refused(number: u8, second: u32) -> Outcome
     }
 }
 
-// An accepted chart's board: completed and cut, or refusal 13.
-fn drawn(board: Board) -> Outcome
+// An accepted chart's board: completed, and cut if asked, or refusal 13.
+fn drawn(board: Board, cut: bool) -> Outcome
     requires { ⌜ Held board ⌝ }
-    ensures { λ r. ⌜ IsAnswer (boxed (cutting (complete (givenGraph (boardOf board))))) r ⌝ }
+    ensures { λ r. ⌜ IsAnswer (stage cut (complete (givenGraph (boardOf board)))) r ⌝ }
 {
     let given = records::begin(board);
     let whole = completion::complete(given);
-    let went = cutting::cut_cycles(whole);
+    let went = cutting::cut_cycles(whole, cut);
     if !went.ok {
         return refused(13, 0);
     }
@@ -81,17 +82,31 @@ fn drawn(board: Board) -> Outcome
     }
 }
 
-// The graph of a chart, completed and cut, or the first refusal of 1 to 13.
-pub fn graph(chart: &[u8]) -> Outcome
-    ensures { λ r. ⌜ IsGraph (now (chart .entry)) r ⌝ }
+// The chart read, completed, and cut if asked. (It alone calls these stages, so that they share one frame: a second caller of `read` would add its frame to the sheet's.)
+fn staged(chart: &[u8], cut: bool) -> Outcome
+    ensures { λ r. ⌜ IsAnswer (stagedOf cut (chartOf (now (chart .entry)))) r ⌝ }
 {
     let read = chart::read(chart);
     let answer = read.answer;
     let board = read.board;
     match answer {
-        Answer::Ready => drawn(board),
+        Answer::Ready => drawn(board, cut),
         Answer::Refused(number, second) => refused(number, second),
     }
+}
+
+// The graph of a chart, completed and cut, or the first refusal of 1 to 13.
+pub fn graph(chart: &[u8]) -> Outcome
+    ensures { λ r. ⌜ IsGraph (now (chart .entry)) r ⌝ }
+{
+    staged(chart, true)
+}
+
+// The graph of a chart, completed and not cut, or the first refusal of 1 to 12.
+pub fn completed(chart: &[u8]) -> Outcome
+    ensures { λ r. ⌜ IsCompleted (now (chart .entry)) r ⌝ }
+{
+    staged(chart, false)
 }
 
 // The ends of all nodes, sources or sinks, for the stages that read only where they lead: record k is node owner[k]'s and leads to

@@ -12,6 +12,7 @@ use lib.Seq.{drop-length, drop-append-le, drop-set-lt}
 use borrow.Author.Tests.{ltb-true, ltb-false}
 use Rattle.laws.specs.Lists.{All, one}
 use Rattle.laws.proofs.Lists.{all-join, all-made}
+use Rattle.laws.proofs.Tests.{pick}
 use Rattle.chart.specs.Chart.{Part, End, Board, endsOf}
 use Rattle.chart.specs.Chart.{Node as GivenNode}
 use Rattle.chart.specs.Accepted.{Fitting, Aimed, Formed, Accepted}
@@ -21,7 +22,7 @@ use Rattle.graph.specs.Completion.{complete}
 use Rattle.graph.specs.Cutting.{turned, pointed, firstNode, secondNode, cutGraph, cutting}
 use Rattle.graph.specs.Graphed.{Dag, ready, graphed}
 use Rattle.graph.specs.Laws.{textsAt, Begins, Texts, Named, Laws}
-use Rattle.graph.proofs.Keeps.{pick, cutting-keeps}
+use Rattle.graph.proofs.Keeps.{cutting-keeps}
 use Rattle.graph.proofs.LineLaws.{complete-length}
 use Rattle.graph.proofs.AimLaws.{all-in}
 use Rattle.graph.proofs.Gathers.{graph-laws}

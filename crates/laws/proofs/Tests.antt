@@ -42,6 +42,11 @@ pub pick : {A : Type 0} (P : A → Type 0) (b : Bool) (x y : A) → P x → P y 
 pick P true x y p q = p
 pick P false x y p q = q
 
+-- the same where the test's answer is known in each case
+pub pick-by : {A : Type 0} (P : A → Type 0) (b : Bool) (x y : A) → (b ≡ true → P x) → (b ≡ false → P y) → P (cond b x y)
+pick-by P true x y p q = p refl
+pick-by P false x y p q = q refl
+
 -- of the one that is taken, what is made of it is the one taken of what is made of both
 pub pick-through : {A B : Type 0} (f : A → B) (b : Bool) (x y : A) → f (cond b x y) ≡ cond b (f x) (f y)
 pick-through f true x y = refl

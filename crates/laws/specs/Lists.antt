@@ -1,7 +1,7 @@
--- Lists: each of them, a table of a function, the records that a node owns, an array that holds a list, a path in an array.
+-- Lists: each of them, whether and where a number is in one, a table of a function, the records that a node owns, an array that holds a list, a path in an array.
 -- Assumes nothing.
 use Prim.Native.Nat.{ℕ, zero, suc, _+_}
-use mathlib.Core.Bool.{Bool, true, false, cond}
+use mathlib.Core.Bool.{Bool, true, false, cond, _||_}
 use mathlib.Core.List.{List, [], _∷_, _++_, map}
 use lib.Dec.{eqb, leb}
 use lib.ListN.{getD}
@@ -10,6 +10,16 @@ use lib.ListN.{getD}
 abbrev pub All : {A : Type 0} → (A → Type 0) → List A → Type 0
 All P [] = Unit {0}
 All P (x ∷ xs) = P x × All P xs
+
+-- p is in the list
+abbrev pub has : ℕ → List ℕ → Bool
+has p [] = false
+has p (q ∷ qs) = eqb q p || has p qs
+
+-- where p stands in the list, the length where it is not in it
+abbrev pub placeOf : ℕ → List ℕ → ℕ
+placeOf p [] = 0
+placeOf p (q ∷ qs) = cond (eqb q p) 0 (suc (placeOf p qs))
 
 abbrev pub one : {A : Type 0} → A → List A
 one x = x ∷ []

@@ -1,4 +1,4 @@
--- No refusal of document 01 has the number 0: so where a result's `refused` is 0, nothing was refused, and a C caller needs no other test.
+-- No refusal has the number 0: so where a result's `refused` is 0, nothing was refused, and a C caller needs no other test.
 -- Assumes nothing.
 use Prim.Native.Nat.{ℕ, _+_, _*_, _<_}
 use native.Mathlib.Omega.{arith}
@@ -18,6 +18,8 @@ use Rattle.graph.specs.Graphed.{Graphed, ready as cut, refusal as uncut, dagOf,
 use Rattle.graph.specs.Graph.{givenGraph}
 use Rattle.graph.specs.Completion.{complete}
 use Rattle.graph.specs.Cutting.{cutting}
+use Rattle.signal.specs.Signal.{Signalled, ordered, cyclic, refusal as unordered, listed, backFrom, sourcesIn, completedOf, signals, signal}
+use Rattle.signal.specs.Outcome.{outcomeOf as signalOutcome}
 use Rattle.grid.specs.declared.SheetRecord.{SheetRecord}
 use Rattle.grid.specs.declared.BoxAnswer.{BoxAnswer}
 use Rattle.grid.specs.Record.{noBox, soundOf, refusedBox, boxAnswerOf}
@@ -39,7 +41,7 @@ use Rattle.path.specs.Text.{textOf}
 use Rattle.path.specs.Segments.{drawnOf}
 use Rattle.path.specs.Answers.{sheetAnswer, countOf, givenOf, writtenOf}
 use Rattle.path.specs.Label.{Place, chart as inChart, table as inTable, standIns, tabled, labelAnswerOf, labelPartOf, labelSpanOf, answerIn, spanIn}
-use Rattle.margalhosa.specs.Results.{boxResult, segmentResult, writtenResult, countResult, labelResult, partResult}
+use Rattle.margalhosa.specs.Results.{boxResult, segmentResult, writtenResult, countResult, labelResult, partResult, orderResult}
 
 -- ---- 1 to 12
 abbrev Read-some : Reading → Type 0
@@ -209,3 +211,25 @@ IsCounted (Count·Refused n p) = ⊥
 pub count-zero : (a : Path) → Path-some a → countResult (countOf a) .refused ≡ 0 → IsCounted (countOf a)
 count-zero (segments ds) h e = tt
 count-zero (unpathed n p) h e = omega (arith, h, e)
+
+-- ---- the signal order: 1 to 12, 20
+abbrev Order-some : Signalled → Type 0
+Order-some (ordered os) = Unit {0}
+Order-some (cyclic cs) = Unit {0}
+Order-some (unordered n m) = 0 < n
+
+signal-some : (r : Reading) → Read-some r → Order-some (signals r)
+signal-some (accepted ps) h =
+    let g = completedOf ps in
+    let done = listed (length g) (sourcesIn g) (length g) in
+    pick Order-some (eqb (length done) (length g)) (ordered done) (cyclic (backFrom (length g) (sourcesIn g) done)) tt tt
+signal-some (unread n m) h = h
+
+order-answer : (v : Signalled) → Order-some v → numbersOf (signalOutcome v .answer) .first ≡ 0 → signalOutcome v .answer ≡ Ready
+order-answer (ordered os) h e = refl
+order-answer (cyclic cs) h e = absurd (omega (arith, e))
+order-answer (unordered n m) h e = absurd (omega (arith, h, e))
+
+pub order-zero : (s : List ℕ) → orderResult (signalOutcome (signal s)) .refused ≡ 0 → signalOutcome (signal s) .answer ≡ Ready
+unfolding signal
+order-zero s = order-answer (signals (chart s)) (signal-some (chart s) (chart-some s))

@@ -1,4 +1,4 @@
--- What the functions for C answer, by what the operations of document 01 do: its two numbers of the refusal, 0 0 where nothing is refused, and the value.
+-- What the functions for C answer, by what the operations of documents 01 and 02 do: its two numbers of the refusal, 0 0 where nothing is refused, and the value.
 -- Assumes nothing.
 use Prim.Native.Nat.{ℕ, _+_, _≤_}
 use mathlib.Core.Path.{_≡_}
@@ -8,6 +8,10 @@ use lib.ListN.{length, take, drop}
 use lib.Ieee.{binary32, ofBits}
 use Rattle.chart.specs.declared.Answer.the-variants.{Ready}
 use Rattle.chart.specs.Read.{Numbers, numbersOf}
+use Rattle.signal.specs.declared.SignalOrder.{SignalOrder}
+use Rattle.signal.specs.Signal.{signal}
+use Rattle.signal.specs.Outcome.{outcomeOf as signalOutcome}
+use Rattle.signal.specs.Laws.{IsSignalOrder}
 use Rattle.grid.specs.declared.Outcome.{Outcome}
 use Rattle.grid.specs.declared.BoxAnswer.{BoxAnswer}
 use Rattle.grid.specs.Sheeted.{sheeted, outcomeOf}
@@ -31,6 +35,7 @@ use Rattle.path.specs.Answers.{sheetAnswer, givenOf, writtenOf, leftOf, givenNu
 use Rattle.path.specs.Reader.{Answer, read}
 use Rattle.path.specs.Promises.{SheetText, IsSegment}
 use Rattle.path.specs.Label.{labelSpanOf}
+use Rattle.margalhosa.specs.declared.OrderResult.{OrderResult}
 use Rattle.margalhosa.specs.declared.SheetResult.{SheetResult}
 use Rattle.margalhosa.specs.declared.BoxResult.{BoxResult}
 use Rattle.margalhosa.specs.declared.SegmentResult.{SegmentResult}
@@ -131,3 +136,13 @@ pub record IsPartResult (s t : List ℕ) (l : Labelled) (r : PartResult) : Type 
   pub whole : r ≡ partResult (labelSpanOf t l)
   pub in-chart : r .fixed ≡ 0 → r .at + r .len ≤ length s
   pub in-table : r .fixed ≡ 1 → r .at + r .len ≤ length t
+
+-- ---- the signal order
+abbrev pub orderResult : SignalOrder → OrderResult
+orderResult o = record { refused = numbersOf (o .answer) .first; second = numbersOf (o .answer) .second; count = o .count; nodes = o .nodes }
+
+-- what `margalhosa_signal_order` promises, for every byte string s
+pub record IsOrderResult (s : List ℕ) (r : OrderResult) : Type 0 where
+  pub whole : r ≡ orderResult (signalOutcome (signal s))
+  -- an order, or a cycle (20) exactly if there is one
+  pub promised : IsSignalOrder s (signalOutcome (signal s))

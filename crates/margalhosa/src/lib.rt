@@ -1,5 +1,5 @@
-// The operations of document 01 for firmware in C: numbers, byte slices and structs with C's layout. include/margalhosa.h is the header.
-// In each result `refused` is document 01's number of the refusal, 0 where nothing is refused, and `second` its second number.
+// The operations of documents 01 and 02 for firmware in C: numbers, byte slices and structs with C's layout. include/margalhosa.h is the header.
+// In each result `refused` is the documents' number of the refusal, 0 where nothing is refused, and `second` its second number.
 ghost use mathlib.Core.Path.{_≡_};
 ghost use Rattle.chart.specs.Read.{numbersOf};
 ghost use Rattle.grid.specs.Record.{boxAnswerOf};
@@ -8,7 +8,7 @@ ghost use Rattle.path.specs.Reader.{read};
 ghost use Rattle.path.specs.Answers.{sheetAnswer, countOf};
 ghost use Rattle.path.specs.Promises.{IsReading};
 ghost use Rattle.path.specs.Label.{labelAnswerOf};
-ghost use Rattle.margalhosa.specs.Results.{IsSheetResult, noPen, boxResult, segmentResult, IsSegmentResult, writtenResult, IsTextResult, countResult, IsRewriteResult, labelResult, IsPartResult};
+ghost use Rattle.margalhosa.specs.Results.{IsSheetResult, noPen, boxResult, segmentResult, IsSegmentResult, writtenResult, IsTextResult, countResult, IsRewriteResult, labelResult, IsPartResult, IsOrderResult};
 use chart::Answer;
 use grid::BoxRecord;
 use grid::SheetRecord;
@@ -72,6 +72,15 @@ pub struct PartResult {
     pub fixed: u32,
     pub at: u32,
     pub len: u32,
+}
+
+// The signal order: the first `count` nodes are all of them in order, or those of a cycle (refused by 20); refused by another number there are none. Past them, 0.
+#[repr(C)]
+pub struct OrderResult {
+    pub refused: u32,
+    pub second: u32,
+    pub count: u8,
+    pub nodes: [u8; 32],
 }
 
 // Document 01's number of the refusal, 0 for none.
@@ -316,4 +325,20 @@ pub extern "C" fn margalhosa_rewrite(text: &[u8], buf: &mut [u8]) -> CountResult
     ensures reading { λ _. ⌜ IsReading (now (text .entry)) ⌝ }
 {
     written(path::rewrite(text, buf))
+}
+
+// The signal order of a chart's nodes: 1 to 12, then 20 with a cycle.
+#[no_mangle]
+pub extern "C" fn margalhosa_signal_order(chart: &[u8]) -> OrderResult
+    ensures { λ r. ⌜ IsOrderResult (now (chart .entry)) r ⌝ }
+{
+    let r = signal::signal_order(chart);
+    let answer = r.answer;
+    let nodes = r.nodes;
+    OrderResult {
+        refused: first_of(answer),
+        second: second_of(answer),
+        count: r.count,
+        nodes: nodes,
+    }
 }

@@ -11,10 +11,11 @@ use lib.Dec.{eqb, leb, ltb}
 use lib.ListN.{length, getD, length-set, length-append}
 use borrow.Author.Tests.{eq-eqb, ne-eqb, eqb-false, ltb-true, ltb-false}
 use Rattle.graph.specs.Shape.{Incidents, Shape}
+use Rattle.laws.specs.Lists.{has, placeOf}
 use Rattle.laws.proofs.Lists.{getD-tabulate, length-tabulate}
 use Rattle.order.specs.Against.{Against, neighbours, neighboursFrom, reversedIf, withSources, withSinks, ofNode, ofNodes, all}
 use Rattle.order.specs.Weights.{Table, beforeOf, afterOf, weights}
-use Rattle.order.specs.Chains.{Triple, triple, turned, tripleOf, precedes, placed, rising, triples, Chains, has, chainOf, join, link, linked, single, chains, inOrder, order, placeOf, columns}
+use Rattle.order.specs.Chains.{Triple, triple, turned, tripleOf, precedes, placed, rising, triples, Chains, chainOf, join, link, linked, single, chains, inOrder, order, columns}
 use Rattle.order.specs.Claims.{Under, Aimed, EachOnce}
 use Rattle.order.proofs.Times.{times, times-append, times-none, times-at, Place, place-at, place-once}
 use Rattle.order.proofs.Flat.{flat, flat-join, out-all}

@@ -11,11 +11,12 @@ use lib.Dec.{eqb, ltb}
 use lib.ListN.{length, getD, set, replicate, length-set, length-append, length-replicate, getD-replicate, List·getD-append}
 use lib.Seq.{getD-set-same, getD-set-other, getD-append-add}
 use borrow.Author.Tests.{eq-eqb, ne-eqb, eqb-true, eqb-false, ltb-true, ltb-false}
+use Rattle.laws.specs.Lists.{has}
 use Rattle.laws.proofs.Tests.{less?, same?}
 use Rattle.order.specs.declared.NodeNumber.{NodeNumber}
 use Rattle.order.specs.declared.chains.Colour.{Colour}
 use Rattle.order.specs.declared.chains.Held.{Held}
-use Rattle.order.specs.Chains.{Chains, chain, has, chainOf, join, link, single}
+use Rattle.order.specs.Chains.{Chains, chain, chainOf, join, link, single}
 use Rattle.order.specs.code.Held.{colour, number, colourAt, placeAt, lengthAt, firstAt, separateOf, recolour, move, joinedOf, pairOf, Fit}
 use Rattle.order.specs.code.Stand.{At, Has, Stand}
 use Rattle.order.proofs.Flat.{flat}

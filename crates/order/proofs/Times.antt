@@ -9,8 +9,7 @@ use mathlib.Core.List.{List, [], _∷_, _++_}
 use lib.Dec.{eqb}
 use lib.ListN.{length, getD}
 use borrow.Author.Tests.{eq-eqb, eqb-true}
-use Rattle.laws.specs.Lists.{tally}
-use Rattle.order.specs.Chains.{has, placeOf}
+use Rattle.laws.specs.Lists.{tally, has, placeOf}
 
 unfoldable pub times : ℕ → List ℕ → ℕ
 times p [] = 0

@@ -1,5 +1,5 @@
-// Reads charts in hexadecimal, one on each line, and prints for each what the stages below the sheet make of it: the cut graph and
-// the first columns, or the refusal of each. The form of a line is that of the instrumented Rust (differential/README.md, `--stages`).
+// Reads charts in hexadecimal, one on each line, and prints for each what the stages below the sheet make of it: the completed graph, the
+// cut graph and the first columns, or the refusal of each. The form of a line is that of the instrumented Rust (differential/README.md, `--stages`).
 use chart::Answer;
 use graph::Item;
 use graph::Table;
@@ -59,10 +59,8 @@ fn print_node(g: Tables, p: u8) {
     print_sinks(sinks, p);
 }
 
+// The nodes, each with its sources and its sinks, and the end of the line.
 fn print_graph(g: Tables) {
-    io::write_all(STDOUT_FILENO, b"cut");
-    number(g.n as u64);
-    number(g.cuts as u64);
     for p in 0..48u8 {
         if (p as usize) < g.n {
             print_node(g, p);
@@ -88,12 +86,29 @@ fn print_refusal(first: u8, second: u32) {
     io::write_all(STDOUT_FILENO, b"\n");
 }
 
+fn print_completed(bytes: &[u8]) {
+    let r = graph::completed(bytes);
+    let a = r.answer;
+    match a {
+        Answer::Ready => {
+            let g = r.graph;
+            io::write_all(STDOUT_FILENO, b"completed");
+            number(g.n as u64);
+            print_graph(g);
+        }
+        Answer::Refused(first, second) => print_refusal(first, second),
+    }
+}
+
 fn print_cut(bytes: &[u8]) {
     let r = graph::graph(bytes);
     let a = r.answer;
     match a {
         Answer::Ready => {
             let g = r.graph;
+            io::write_all(STDOUT_FILENO, b"cut");
+            number(g.n as u64);
+            number(g.cuts as u64);
             print_graph(g);
         }
         Answer::Refused(first, second) => print_refusal(first, second),
@@ -113,6 +128,7 @@ fn print_first(bytes: &[u8]) {
 }
 
 fn print_chart(bytes: &[u8]) {
+    print_completed(bytes);
     print_cut(bytes);
     print_first(bytes);
 }

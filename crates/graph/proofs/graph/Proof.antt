@@ -1,47 +1,15 @@
--- `graph`: the chart crate's promise and that of `drawn`, by the laws of `Begins`.
+-- `graph`: the stage that is asked, by the law of `Stages`.
 -- Assumes nothing.
-use Rattle.graph.proofs.Begins.{read-held, graph-ready, graph-refused}
-use Rattle.graph.proofs.Gathers.{is-graph}
+use Rattle.graph.proofs.Stages.{graph-staged}
 use borrow.Author.Needs.{needs}
 use Rattle.graph.proofs.graph.Statement.{statement}
 use Rattle.graph.proofs.graph.Tie as tie
 
-read-requires : tie.Need-read-requires
-read-requires c κs = search needs
-
-enum-told : tie.Need-enum-told
-enum-told c = search needs
-
-drawn-requires : tie.Need-drawn-requires
-drawn-requires c κs = let h = c .before .before .before in read-held (h .before .before .args .chart .now) (h .read .result) (h .read .ensures) (c .enum-told .given .1)
-
-enum-known-answer : tie.Need-enum-known-answer
-enum-known-answer c = search needs
-
-refused-requires : tie.Need-refused-requires
-refused-requires c κs = search needs
+staged-requires : tie.Need-staged-requires
+staged-requires c κs = search needs
 
 returns : tie.Need-returns
-returns c =
-    let h = c .before .before .before .before in
-    let s = h .before .before .args .chart .now in
-    is-graph s (c .drawn .result) (graph-ready s (h .read .result) (h .read .ensures) (c .before .enum-told .given .1) (c .drawn .result) (c .drawn .ensures))
-
-returns-2 : tie.Need-returns-2
-returns-2 c =
-    let h = c .before .before .before .before .before in
-    let a = c .before .before .answer .given in
-    let s = h .before .before .args .chart .now in
-    is-graph s (c .refused .result) (graph-refused s (h .read .result) (h .read .ensures) (a .0 .0) (a .0 .1 .0) (a .1) (c .refused .result) (c .refused .ensures))
+returns c = graph-staged (c .before .before .args .chart .now) (c .staged .result) (c .staged .ensures)
 
 pub graph-spec : {M : Type 1} → statement M
-graph-spec =
-    tie.close
-    (tie.spec
-    read-requires
-    enum-told
-    drawn-requires
-    enum-known-answer
-    refused-requires
-    returns
-    returns-2)
+graph-spec = tie.close (tie.spec staged-requires returns)

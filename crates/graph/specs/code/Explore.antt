@@ -95,3 +95,15 @@ over r sn = record { given = 0; tables = r; seen = sn; frames = []; depth = 0 }
 pub record CutTables (t : Tables) (ok : Bool) (r : Tables) : Type 0 where
   pub standing : List ℕ
   pub cut : CutAll t ok (over r standing)
+
+-- r has the graph of t
+pub record SameGraph (t r : Tables) : Type 0 where
+  pub sound : Roomy r
+  pub graph : graphOf r ≡ graphOf t
+  pub cuts : r .cuts ≡ 0
+  pub lines : r .lines ≡ t .lines
+
+-- r is t, cut if asked
+abbrev pub CutIf : Bool → Tables → Bool → Tables → Type 0
+CutIf true t ok r = CutTables t ok r
+CutIf false t ok r = (ok ≡ true) × SameGraph t r

@@ -1,22 +1,26 @@
--- What an answer of `graph` stands for, what the crates above take of it (`graphs-of` of proofs/Tabled), and what private functions answer.
+-- What an answer of `graph` or `completed` stands for, what the crates above take of it (`graphs-of`, `completed-answers` of proofs/Tabled), and what private functions answer.
 -- Assumes nothing.
 use Prim.Native.Nat.{ℕ, _≤_, _<_}
 use mathlib.Core.Path.{_≡_}
+use mathlib.Core.Bool.{Bool, true, false}
 use mathlib.Core.List.{List}
 use lib.ListN.{length, replicate}
 use Rattle.laws.specs.Lists.{All, ownedBy, tabulate, joined}
 use Rattle.chart.specs.declared.Board.{Board as BoardTables}
 use Rattle.chart.specs.declared.Answer.{Answer}
 use Rattle.chart.specs.declared.Answer.the-variants.{Ready, Refused}
-use Rattle.chart.specs.Chart.{ready as accepted, chart}
+use Rattle.chart.specs.Chart.{Reading, ready as accepted, refusal as refused, chart}
 use Rattle.chart.specs.code.Filled.{emptyLines, boardOf, tablesOf as boardTables}
 use Rattle.chart.specs.code.Reads.{Sound as SoundBoard}
 use Rattle.graph.specs.declared.Item.{Item}
 use Rattle.graph.specs.declared.Table.{Table}
 use Rattle.graph.specs.declared.Tables.{Tables}
 use Rattle.graph.specs.declared.Outcome.{Outcome}
-use Rattle.graph.specs.Graph.{givenGraph}
-use Rattle.graph.specs.Graphed.{Dag, Graphed, ready, refusal, graphed}
+use Rattle.graph.specs.Graph.{Graph, givenGraph}
+use Rattle.graph.specs.Completion.{complete}
+use Rattle.graph.specs.Cutting.{cutting}
+use Rattle.graph.specs.Graphed.{Dag, Graphed, ready, refusal, boxed, graphed}
+use Rattle.graph.specs.Completed.{uncut}
 use Rattle.graph.specs.Laws.{Laws}
 use Rattle.graph.specs.code.Tables.{itemsOf, graphOf, Linked, Charted}
 use Rattle.graph.specs.Outcome.{tableOf, outcomeOf, noItem}
@@ -66,6 +70,16 @@ pub record IsAnswer (g : Graphed) (r : Outcome) : Type 0 where
   pub linked : Linked (r .graph)
 
 -- ---- what private functions answer
+
+-- a completed graph, cut or not
+abbrev pub stage : Bool → Graph → Graphed
+stage true g = boxed (cutting g)
+stage false g = uncut g
+
+-- a refused chart stays refused
+abbrev pub staged : Bool → Reading → Graphed
+staged cut (accepted ps) = stage cut (complete (givenGraph ps))
+staged cut (refused number second) = refusal number second
 
 -- an accepted chart's board, as the chart crate promises it
 pub record Held (b : BoardTables) : Type 0 where

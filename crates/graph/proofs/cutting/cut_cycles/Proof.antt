@@ -1,10 +1,12 @@
 -- `cutting::cut_cycles` is `cutting`: each step keeps what is left of the walk from a start, and each start what is left of the walks.
 -- Assumes nothing.
-use Prim.Native.Nat.{ℕ, _+_, _-_, _<_, _≤_}
+use Prim.Native.Nat.{ℕ, _+_, _-_, _*_, _<_, _≤_}
 use mathlib.Core.Path.{_≡_, refl, sym, _∙_, subst}
+use mathlib.Core.Bool.{Bool, true, false}
 use mathlib.Core.List.{List, []}
 use native.Mathlib.Omega.{arith}
 use borrow.Author.Needs.{needs}
+use mir.Val.{boolByte}
 use lib.ListN.{length, getD, set, length-set}
 use Rattle.laws.proofs.Lists.{mapped-long}
 use Rattle.graph.specs.declared.Item.{Item}
@@ -14,11 +16,11 @@ use Rattle.graph.specs.declared.cutting.Look.{Look}
 use Rattle.graph.specs.Cutting.{Walk, exploreFrom}
 use Rattle.graph.specs.code.Tables.{itemsOf, Sunk}
 use Rattle.graph.specs.Outcome.{noItem}
-use Rattle.graph.specs.code.Explore.{Explore, noLook, IsFound, Ready, Kept, answer, effort, walkOf}
+use Rattle.graph.specs.code.Explore.{Explore, noLook, IsFound, Ready, Kept, answer, effort, walkOf, CutTables, CutIf}
 use Rattle.graph.proofs.Lists.{table-size, table-at}
 use Rattle.graph.proofs.Cuts.{cut-to}
 use Rattle.graph.proofs.Advances.{begins, begun-is, ends, x-node-in, x-leave, x-k-in, x-sink-in, x-to-in, x-room, x-node, x-pass, x-enter, x-refuse, x-cut}
-use Rattle.graph.proofs.Roots.{Started, start-pass, start-walk, start-over, start-first, start-last}
+use Rattle.graph.proofs.Roots.{Started, start-pass, start-walk, start-over, start-first, start-none, start-last}
 use Rattle.graph.proofs.cutting.cut_cycles.Statement.{statement}
 use Rattle.graph.proofs.cutting.cut_cycles.Tie as tie
 
@@ -37,21 +39,34 @@ abbrev Sized : List ℕ → List ℕ → Table → List Look → Type 0
 Sized seen names sinks frames = (length seen ≡ 48) × (length names ≡ 48) × (length (sinks .items) ≡ 88) × (length frames ≡ 48)
 
 abbrev Inv-loop2 : tie.InvT-loop2
-Inv-loop2 t given seen₀ n₀ cuts₀ names₀ sources₀ sinks₀ frames₀ p at depth₀ seen n cuts names sources sinks frames depth =
+Inv-loop2 t cut given starts seen₀ n₀ cuts₀ names₀ sources₀ sinks₀ frames₀ p at depth₀ seen n cuts names sources sinks frames depth =
     Sized seen names sinks frames
     × Ready (stateAt t seen n cuts names sources sinks frames depth)
     × (answer (stateAt t seen n cuts names sources sinks frames depth) ≡ answer (stateAt t seen₀ n₀ cuts₀ names₀ sources₀ sinks₀ frames₀ depth₀))
 
 abbrev μ-loop2 : tie.MeasureT-loop2
-μ-loop2 t given seen₀ n₀ cuts₀ names₀ sources₀ sinks₀ frames₀ p at depth₀ seen n cuts names sources sinks frames depth =
+μ-loop2 t cut given starts seen₀ n₀ cuts₀ names₀ sources₀ sinks₀ frames₀ p at depth₀ seen n cuts names sources sinks frames depth =
     effort (stateAt t seen n cuts names sources sinks frames depth)
 
 abbrev Inv-loop : tie.InvT-loop
-Inv-loop t given seen₀ n₀ cuts₀ names₀ sources₀ sinks₀ frames₀ p₀ seen n cuts names sources sinks frames p =
-    Sized seen names sinks frames × Started t (stateAt t seen n cuts names sources sinks frames 0) p
+Inv-loop t cut given starts seen₀ n₀ cuts₀ names₀ sources₀ sinks₀ frames₀ p₀ seen n cuts names sources sinks frames p =
+    Sized seen names sinks frames × Started t (stateAt t seen n cuts names sources sinks frames 0) p × (p ≤ starts)
 
 abbrev μ-loop : tie.MeasureT-loop
-μ-loop t given seen₀ n₀ cuts₀ names₀ sources₀ sinks₀ frames₀ p₀ seen n cuts names sources sinks frames p = given - p
+μ-loop t cut given starts seen₀ n₀ cuts₀ names₀ sources₀ sinks₀ frames₀ p₀ seen n cuts names sources sinks frames p = starts - p
+
+-- ---- the starts: all nodes, or none
+starts-in : (b : Bool) (n : ℕ) → boolByte b * n ≤ n
+starts-in true n = omega arith
+starts-in false n = omega arith
+
+cut-over : (b : Bool) (t : Tables) (p : ℕ) → p < boolByte b * t .n → (r : Tables) → CutTables t false r → CutIf b t false r
+cut-over true t p h r k = k
+cut-over false t p h r k = absurd (omega arith)
+
+cut-last : (b : Bool) (t : Tables) (s : Explore) (p : ℕ) → Started t s p → boolByte b * t .n ≤ p → p ≤ boolByte b * t .n → CutIf b t true (s .tables)
+cut-last true t s p l h m = record { standing = s .seen; cut = (l .ready .sound, l .lines, start-last t s p l (omega arith)) }
+cut-last false t s p l h m = (refl, start-none t s p l (omega arith))
 
 -- before start p
 module _ (h : tie.At-loop Inv-loop2 μ-loop2 Inv-loop μ-loop) where
@@ -69,6 +84,12 @@ module _ (h : tie.At-loop Inv-loop2 μ-loop2 Inv-loop μ-loop) where
 
   small : given-t .n ≤ 48
   small = h .before .before .before .before .before .pre .0 .linked .nodes
+
+  abbrev cut : Bool
+  cut = h .before .before .before .before .before .args .cut
+
+  below : h .loop .p < boolByte cut * given-t .n → h .loop .p < given-t .n
+  below l = omega (arith, starts-in cut (given-t .n))
 
 -- in the walk from p
 module _ (h : tie.At-loop2 Inv-loop2 μ-loop2 Inv-loop μ-loop) where
@@ -94,7 +115,7 @@ module _ (h : tie.At-loop2 Inv-loop2 μ-loop2 Inv-loop μ-loop) where
   long = h .loop2 .inv .0 .2
 
   p-in : start .loop .p < given-t start .n
-  p-in = h .before .before .loop-test .taken
+  p-in = below start (h .before .before .loop-test .taken)
 
   walk-is : answer inner ≡ exploreFrom (given-t start .n) (walkOf (outer start)) (start .loop .p)
   walk-is = h .loop2 .inv .2 ∙ begun-is (outer start) (outer-seen start) (outer-frames start) (start .loop .inv .1 .ready) (start .loop .p) p-in (h .before .if1 .taken) refl
@@ -189,6 +210,12 @@ marks-long c = search needs
 cut-long : (c : tie.After-cut-sinks Inv-loop2 μ-loop2 Inv-loop μ-loop) → length (c .cut-sinks .result .items) ≡ 88
 cut-long c = let k = c .cut-sinks .ok in search (needs, mapped-long)
 
+cast-starts : tie.Need-cast-starts Inv-loop2 μ-loop2 Inv-loop μ-loop
+cast-starts c = search needs
+
+mul-starts : tie.Need-mul-starts Inv-loop2 μ-loop2 Inv-loop μ-loop
+mul-starts c = record { fits = omega (arith, starts-in (c .args .cut) (c .args .t .n), c .pre .0 .linked .nodes) }
+
 mark-roots-requires : tie.Need-mark-roots-requires Inv-loop2 μ-loop2 Inv-loop μ-loop
 mark-roots-requires c κs = c .pre .0 .linked
 
@@ -196,19 +223,19 @@ loop-holds : tie.Need-loop-holds Inv-loop2 μ-loop2 Inv-loop μ-loop
 loop-holds c =
     let z = c .before .before .before .before in
     let m = marks-long (c .before .before .before) in
-    ((m, names-long z, sinks-long z, refl), start-first (z .args .t) (z .pre .0) (z .pre .1) (c .before .before .before .mark-roots .result) m (c .before .before .before .mark-roots .ensures) _)
+    ((m, names-long z, sinks-long z, refl), start-first (z .args .t) (z .pre .0) (z .pre .1) (c .before .before .before .mark-roots .result) m (c .before .before .before .mark-roots .ensures) _, omega arith)
 
 add-p : tie.Need-add-p Inv-loop2 μ-loop2 Inv-loop μ-loop
 add-p c = search needs
 
 array-read-if1 : tie.Need-array-read-if1 Inv-loop2 μ-loop2 Inv-loop μ-loop
-array-read-if1 c = omega (arith, small (c .before), c .loop-test .taken)
+array-read-if1 c = omega (arith, small (c .before), below (c .before) (c .loop-test .taken))
 
 array-write-seen : tie.Need-array-write-seen Inv-loop2 μ-loop2 Inv-loop μ-loop
-array-write-seen c = omega (arith, small (c .before .before), c .before .loop-test .taken)
+array-write-seen c = omega (arith, small (c .before .before), below (c .before .before) (c .before .loop-test .taken))
 
-cast-t34 : tie.Need-cast-t34 Inv-loop2 μ-loop2 Inv-loop μ-loop
-cast-t34 c = omega (arith, small (c .before .before), c .before .loop-test .taken)
+cast-t37 : tie.Need-cast-t37 Inv-loop2 μ-loop2 Inv-loop μ-loop
+cast-t37 c = omega (arith, small (c .before .before), below (c .before .before) (c .before .loop-test .taken))
 
 array-set-from-frames : tie.Need-array-set-from-frames Inv-loop2 μ-loop2 Inv-loop μ-loop
 array-set-from-frames c = search needs
@@ -217,7 +244,7 @@ loop2-holds : tie.Need-loop2-holds Inv-loop2 μ-loop2 Inv-loop μ-loop
 loop2-holds c =
     let h = c .before .before in
     let z = h .loop .inv .0 in
-    ((simp length-set (z .0), z .1, z .2, simp length-set (z .3)), begins (outer h) (outer-seen h) (outer-frames h) (h .loop .inv .1 .ready) (h .loop .p) (c .before .loop-test .taken) (c .if1 .taken) refl, refl)
+    ((simp length-set (z .0), z .1, z .2, simp length-set (z .3)), begins (outer h) (outer-seen h) (outer-frames h) (h .loop .inv .1 .ready) (h .loop .p) (below h (c .before .loop-test .taken)) (c .if1 .taken) refl, refl)
 
 loop-less : tie.Need-loop-less Inv-loop2 μ-loop2 Inv-loop μ-loop
 loop-less c = let h = c .before .before .before .before in omega (arith, p-in (c .before))
@@ -237,6 +264,7 @@ loop-again c =
             lines = refl;
             walk = sym (ends (inner h) (c .loop2-test .left)) ∙ walk-is h;
           }),
+      omega (arith, h .before .before .loop-test .taken),
     )
 
 sub-top : tie.Need-sub-top Inv-loop2 μ-loop2 Inv-loop μ-loop
@@ -286,8 +314,8 @@ cast-q c = search needs
 array-read-v : tie.Need-array-read-v Inv-loop2 μ-loop2 Inv-loop μ-loop
 array-read-v c = to-in (c .before .before .before)
 
-add-t51 : tie.Need-add-t51 Inv-loop2 μ-loop2 Inv-loop μ-loop
-add-t51 c = omega (arith, sink-in (c .before .before .before .before))
+add-t54 : tie.Need-add-t54 Inv-loop2 μ-loop2 Inv-loop μ-loop
+add-t54 c = omega (arith, sink-in (c .before .before .before .before))
 
 mul-frames : tie.Need-mul-frames Inv-loop2 μ-loop2 Inv-loop μ-loop
 mul-frames c = omega (arith, depth-in (walk (c .before .before .before .before)))
@@ -331,10 +359,11 @@ returns c =
     let w = walk h in
     let s = start w in
     let over : 48 < length (answer (inner w) .graph) = x-refuse (inner w) (all w) (most w) (long w) (w .loop2 .inv .1) (some h) (at-k h) (sunk h) (c .before .before .if3 .left) (c .before .if4 .taken) in
-    record {
+    cut-over (cut s) (given-t s) (s .loop .p) (w .before .before .loop-test .taken) _
+    (record {
       standing = [];
       cut = start-over (given-t s) (outer s) (s .loop .p) (outer-seen s) (s .loop .inv .1) (p-in w) (w .before .if1 .taken) (subst (λ (u : Walk). 48 < length (u .graph)) (walk-is w) over);
-    }
+    })
 
 cast-a : tie.Need-cast-a Inv-loop2 μ-loop2 Inv-loop μ-loop
 cast-a c = search needs
@@ -382,15 +411,10 @@ loop-less-2 : tie.Need-loop-less-2 Inv-loop2 μ-loop2 Inv-loop μ-loop
 loop-less-2 c = omega (arith, c .before .loop-test .taken)
 
 loop-again-2 : tie.Need-loop-again-2 Inv-loop2 μ-loop2 Inv-loop μ-loop
-loop-again-2 c = let h = c .before .before in (h .loop .inv .0, start-pass (given-t h) (outer h) (h .loop .p) (outer-seen h) (h .loop .inv .1) (c .before .loop-test .taken) (c .if1 .left))
+loop-again-2 c = let h = c .before .before in (h .loop .inv .0, start-pass (given-t h) (outer h) (h .loop .p) (outer-seen h) (h .loop .inv .1) (below h (c .before .loop-test .taken)) (c .if1 .left), omega (arith, c .before .loop-test .taken))
 
 returns-2 : tie.Need-returns-2 Inv-loop2 μ-loop2 Inv-loop μ-loop
-returns-2 c =
-    let h = c .before .before in
-    record {
-      standing = h .loop .seen;
-      cut = (h .loop .inv .1 .ready .sound, refl, start-last (given-t h) (outer h) (h .loop .p) (h .loop .inv .1) (c .before .loop-test .left));
-    }
+returns-2 c = let h = c .before .before in cut-last (cut h) (given-t h) (outer h) (h .loop .p) (h .loop .inv .1) (c .before .loop-test .left) (h .loop .inv .2)
 
 pub cut-cycles-spec : {M : Type 1} → statement M
 cut-cycles-spec =
@@ -400,12 +424,14 @@ cut-cycles-spec =
     μ-loop2
     Inv-loop
     μ-loop
+    cast-starts
+    mul-starts
     mark-roots-requires
     loop-holds
     add-p
     array-read-if1
     array-write-seen
-    cast-t34
+    cast-t37
     array-set-from-frames
     loop2-holds
     loop-less
@@ -424,7 +450,7 @@ cut-cycles-spec =
     element-copy-out-e
     cast-q
     array-read-v
-    add-t51
+    add-t54
     mul-frames
     array-set-from-frames-2
     array-write-seen-3
