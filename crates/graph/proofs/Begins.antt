@@ -120,17 +120,17 @@ pub few-lines : (s : List ℕ) (ps : Board) → chart s ≡ accepted ps → (g :
 few-lines s ps e g l = rw (texts-held (length ps) ps g l) (given-few s ps e)
 
 -- the given lines of a graph, as the table holds them
-abbrev linesIn : Graph → Lines
-linesIn g = record { items = padded 128 noLine (textsFrom 0 g); count = length (textsFrom 0 g) }
+abbrev heldLines : Graph → Lines
+heldLines g = record { items = padded 128 noLine (textsFrom 0 g); count = length (textsFrom 0 g) }
 
-lines-are : (b : BoardTables) → Held b → (g : Graph) → Lined (length (boardOf b)) (givenLines (boardOf b)) g → b .lines ≡ linesIn g
+lines-are : (b : BoardTables) → Held b → (g : Graph) → Lined (length (boardOf b)) (givenLines (boardOf b)) g → b .lines ≡ heldLines g
 lines-are b h g l =
     let ps : Board = boardOf b in
     ap (λ (t : BoardTables). t .lines) (h .whole ∙ tables-held (length ps) ps)
     ∙ rw (texts-held (length ps) ps g l, capped-room 128 (length (linesFrom 0 ps)) (given-few (h .chart-bytes) ps (h .read)))
 
 -- tables in order answer for the graph that they hold
-answered : (t : Tables) → Roomy t → length (t .names) ≡ 48 → length (t .sources .items) ≡ 88 → length (t .sinks .items) ≡ 88 → t .lines ≡ linesIn (graphOf t) → (r : Tables) → r ≡ orderedOf t →
+answered : (t : Tables) → Roomy t → length (t .names) ≡ 48 → length (t .sources .items) ≡ 88 → length (t .sinks .items) ≡ 88 → t .lines ≡ heldLines (graphOf t) → (r : Tables) → r ≡ orderedOf t →
     IsAnswer (ready (record { graph = graphOf t; cuts = t .cuts })) (record { answer = Ready; graph = r })
 answered t o long lx ly lines r e =
     let size : length (graphOf t) ≡ t .n = length-graph (t .n) (linesOf t) (itemsOf (t .sources)) (itemsOf (t .sinks)) in
@@ -145,7 +145,7 @@ answered t o long lx ly lines r e =
     }
   where
     e-of : (t r : Tables) → r ≡ orderedOf t →
-        length (graphOf t) ≡ t .n → padded 48 255 (namesOf (graphOf t)) ≡ t .names → t .lines ≡ linesIn (graphOf t) →
+        length (graphOf t) ≡ t .n → padded 48 255 (namesOf (graphOf t)) ≡ t .names → t .lines ≡ heldLines (graphOf t) →
         sourcesFrom 0 (graphOf t) ≡ inOrder (t .n) (itemsOf (t .sources)) → sinksFrom 0 (graphOf t) ≡ inOrder (t .n) (itemsOf (t .sinks)) →
         tablesOf (record { graph = graphOf t; cuts = t .cuts }) ≡ r
     e-of t r e size names lines xs ys = cc (ap tableOf xs, ap tableOf ys)
@@ -169,14 +169,14 @@ module _ (b : BoardTables) (h : Held b) (t₀ t₁ : Tables) (begin : Begun b t�
       let g : graphOf t ≡ wholeOf b .graph = ap (λ (u : Walk). u .graph) w in
       let size : length (graphOf t) ≡ t .n = length-graph (t .n) (linesOf t) (itemsOf (t .sources)) (itemsOf (t .sinks)) in
       let fits : leb (length (graphOf t)) 48 ≡ true = le-leb (length (graphOf t)) 48 (omega (arith, o .0 .linked .nodes)) in
-      let lines : t .lines ≡ linesIn (graphOf t) = o .1 ∙ done .same .lines ∙ begin .lines ∙ lines-are b h (wholeOf b .graph) (board-lined (boardOf b)) ∙ ap linesIn (sym g) in
+      let lines : t .lines ≡ heldLines (graphOf t) = o .1 ∙ done .same .lines ∙ begin .lines ∙ lines-are b h (wholeOf b .graph) (board-lined (boardOf b)) ∙ ap heldLines (sym g) in
       rw (← w, fits) (answered t (o .0) long lx ly lines r e)
 
   uncut-ready : (t : Tables) → SameGraph t₁ t → length (t .names) ≡ 48 → length (t .sources .items) ≡ 88 → length (t .sinks .items) ≡ 88 → (r : Tables) → r ≡ orderedOf t →
       IsAnswer (uncut (complete (givenGraph (boardOf b)))) (record { answer = Ready; graph = r })
   uncut-ready t o long lx ly r e =
       let g : graphOf t ≡ complete (givenGraph (boardOf b)) = o .graph ∙ done .graph ∙ ap complete (begin .graph) in
-      let lines : t .lines ≡ linesIn (graphOf t) = o .lines ∙ done .same .lines ∙ begin .lines ∙ lines-are b h (complete (givenGraph (boardOf b))) (completed-lined (boardOf b)) ∙ ap linesIn (sym g) in
+      let lines : t .lines ≡ heldLines (graphOf t) = o .lines ∙ done .same .lines ∙ begin .lines ∙ lines-are b h (complete (givenGraph (boardOf b))) (completed-lined (boardOf b)) ∙ ap heldLines (sym g) in
       subst (λ (k : ℕ). IsAnswer (ready (record { graph = complete (givenGraph (boardOf b)); cuts = k })) (record { answer = Ready; graph = r })) (o .cuts)
       (rw (← g) (answered t (o .sound) long lx ly lines r e))
 

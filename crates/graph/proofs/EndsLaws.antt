@@ -7,7 +7,7 @@ use mathlib.Core.Path.{_≡_, refl, ap, sym, _∙_}
 use mathlib.Core.Bool.{Bool, true, false}
 use mathlib.Core.List.{List, [], _∷_, map}
 use lib.Dec.{eqb}
-use lib.ListN.{length, getD, take, List·getD-map}
+use lib.ListN.{length, getD, take, length-map, List·getD-map}
 use lib.Seq.{length-take-le, getD-take}
 use Rattle.laws.specs.Lists.{All, keep}
 use Rattle.laws.proofs.Lists.{tabulate-same, map-tabulate, length-padded}
@@ -15,16 +15,24 @@ use Rattle.graph.specs.declared.Item.{Item}
 use Rattle.graph.specs.declared.Table.{Table}
 use Rattle.graph.specs.declared.Tables.{Tables}
 use Rattle.graph.specs.declared.Outcome.{Outcome}
-use Rattle.graph.specs.Graph.{Edge}
+use Rattle.graph.specs.Graph.{Edge, Graph, bare, nodeAt}
 use Rattle.graph.specs.Graphed.{Graphed, ready, refusal, graphed}
 use Rattle.graph.specs.Outcome.{sourcesFrom, sinksFrom, outcomeOf}
 use Rattle.graph.specs.code.Graphs.{Graphs}
-use Rattle.graph.specs.Shape.{targets, incidentsOf, shapeOf}
+use Rattle.graph.specs.Shape.{incidentsAt, targets, incidentsOf, shapeOf}
 use Rattle.graph.specs.Ends.{endsIn, targetsOf, endsOf, incidentsIn, shapeFrom, Linked}
 use Rattle.graph.specs.code.Tables.{edgeOf, owned, itemsOf, nodeOf, linesOf, graphFrom, graphOf, Below, Aimed}
 use Rattle.graph.specs.Outcome.{noItem}
 
 -- ---- the shape
+pub shape-long : (g : Graph) → length (shapeOf g) ≡ length g
+unfolding shapeOf
+shape-long g = length-map g incidentsOf
+
+pub shape-at : (g : Graph) (p : ℕ) → incidentsAt (shapeOf g) p ≡ incidentsOf (nodeAt g p)
+unfolding shapeOf
+shape-at g p = List·getD-map incidentsOf g p bare
+
 map-keep : {A B : Type 0} (f : A → B) (b : Bool) (x : A) (l : List A) → map f (keep b x l) ≡ keep b (f x) (map f l)
 map-keep f true x l = refl
 map-keep f false x l = refl

@@ -34,7 +34,7 @@ use Rattle.graph.specs.Outcome.{heldMark, itemOf, sourcesFrom, sinksFrom
 use Rattle.graph.specs.code.Graphs.{noNodes, dagIn, graphedOf, Sound, Graphs, IsAnswer}
 use Rattle.graph.proofs.Keeps.{cutting-keeps}
 use Rattle.graph.proofs.Completes.{SourceAt, complete-holds}
-use Rattle.graph.proofs.LineLaws.{linesIn, complete-length, Lined, givenLines, given-lines, completed-lined, board-lined}
+use Rattle.graph.proofs.LineLaws.{linesIn, Lined, givenLines, completed-length, given-lines, completed-lined, board-lined}
 use Rattle.graph.proofs.AimLaws.{all-set, all-at, all-in, cutting-aims, cutting-count}
 use Rattle.graph.proofs.MarkLaws.{Good, complete-good, cutting-marks}
 use Rattle.graph.proofs.MutualLaws.{complete-mutual}
@@ -155,7 +155,7 @@ module _ (s : List ℕ) (ps : Board) (r : chart s ≡ accepted ps) where
   g = complete g₀
 
   long : length g ≡ length ps
-  long = complete-length g₀ ∙ length-map ps givenNode
+  long = completed-length ps
 
   given-good : Good (length ps) g₀
   given-good = record { long = length-map ps givenNode; aimed = given-aimed s (length ps) ps (a .formed); marks = given-marks ps }
@@ -218,7 +218,7 @@ module _ (s : List ℕ) (ps : Board) (r : chart s ≡ accepted ps) where
 pub board-walks : (ps : Board) → Walks ps
 board-walks ps =
     let g : Graph = complete (givenGraph ps) in
-    let long : length g ≡ length ps = complete-length (givenGraph ps) ∙ length-map ps givenNode in
+    let long : length g ≡ length ps = completed-length ps in
     record { roots = λ more. rw (← long) (reached-enough g more); starts = λ more. rw (← long) (cutting-enough g more) }
 
 pub laws-drawn : (s : List ℕ) (d : Dag) → (c : Reading) → chart s ≡ c → drawn c ≡ ready d → Laws s d

@@ -83,6 +83,9 @@ module _ (n : ℕ) (ls : List (List Line)) where
 abbrev pub givenLines : Board → List (List Line)
 givenLines ps = map (λ (p : GivenNode). map given (p .lines)) ps
 
+pub completed-length : (ps : Board) → length (complete (givenGraph ps)) ≡ length ps
+completed-length ps = complete-length (givenGraph ps) ∙ length-map ps givenNode
+
 pub given-lines : (ps : Board) → linesIn (givenGraph ps) ≡ givenLines ps
 given-lines [] = refl
 given-lines (p ∷ ps) = cc (given-lines ps)
@@ -93,5 +96,5 @@ completed-lined ps = record { rest = []; lines = complete-lines (givenGraph ps) 
 pub board-lined : (ps : Board) → Lined (length ps) (givenLines ps) (cutting (complete (givenGraph ps)) .graph)
 board-lined ps =
     cutting-lined (length ps) (givenLines ps) (complete (givenGraph ps))
-    (complete-length (givenGraph ps) ∙ length-map ps givenNode)
+    (completed-length ps)
     (complete-lines (givenGraph ps) ∙ given-lines ps)

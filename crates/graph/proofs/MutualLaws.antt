@@ -305,10 +305,6 @@ leads-out n es p a h = go (leadsTo es p) refl
     go true e = absurd (let l = leads-in n es p a e in omega arith)
     go false e = e
 
--- a node past the end has no ends
-pub none-past : (g : Graph) (p : ℕ) → length g ≤ p → nodeAt g p ≡ bare
-none-past g p h = List·getD-eq-default g bare h
-
 -- the graph of a board whose targets are nodes, completed
 pub complete-mutual : (g : Graph) → Aimed (length g) g → Mutual (complete g)
 complete-mutual g a p q = go (less? p (length g)) (less? q (length g))
@@ -319,8 +315,8 @@ complete-mutual g a p q = go (less? p (length g)) (less? q (length g))
     go : (p < length g) ⊎ (length g ≤ p) → (q < length g) ⊎ (length g ≤ q) → leadsTo (nodeAt (complete g) p .sinks) q ≡ leadsTo (nodeAt (complete g) q .sources) p
     go (inl hp) (inl hq) = mutual-given g p q hp hq
     go (inr hp) r =
-        ap (λ (n : Node). leadsTo (n .sinks) q) (none-past (complete g) p (omega (arith, complete-length g)))
+        ap (λ (n : Node). leadsTo (n .sinks) q) (List·getD-eq-default (complete g) bare (omega (arith, complete-length g)))
         ∙ sym (leads-out (length g) (nodeAt (complete g) q .sources) p (node-aims (length g) (complete g) q aims .sources) hp)
     go (inl hp) (inr hq) =
         leads-out (length g) (nodeAt (complete g) p .sinks) q (node-aims (length g) (complete g) p aims .sinks) hq
-        ∙ sym (ap (λ (n : Node). leadsTo (n .sources) p) (none-past (complete g) q (omega (arith, complete-length g))))
+        ∙ sym (ap (λ (n : Node). leadsTo (n .sources) p) (List·getD-eq-default (complete g) bare (omega (arith, complete-length g))))

@@ -8,7 +8,7 @@ use mathlib.Core.Bool.{Bool, true, false}
 use mathlib.Core.Option.{Option, none, some}
 use mathlib.Core.List.{List, [], _∷_, _++_, map, append-nil}
 use lib.Dec.{ltb}
-use lib.ListN.{length, getD, length-map, List·getD-map, List·getD-eq-default}
+use lib.ListN.{length, getD, List·getD-map, List·getD-eq-default}
 use borrow.Author.Tests.{ltb-true, ltb-false, ne-eqb}
 use Rattle.laws.specs.Lists.{All, one}
 use Rattle.laws.proofs.Lists.{all-map, all-flat, owned-flat, tabulate-list, getD-tabulate, getD-padded, take-padded}
@@ -31,7 +31,7 @@ use Rattle.graph.specs.Completed.{completing, completed, CompletedLaws, 
 use Rattle.graph.specs.code.Tables.{markOf, edgeOf, owned, itemsOf, nodeOf, numberLine, linesAt, linesOf, graphFrom, graphOf, Linked}
 use Rattle.graph.specs.Outcome.{heldMark, itemOf, sourcesFrom, sinksFrom, textsIn, textsFrom, nameOf, namesOf, tablesOf, outcomeOf, IsGraph}
 use Rattle.graph.specs.code.Graphs.{noNodes, Graphs, IsAnswer}
-use Rattle.graph.proofs.LineLaws.{complete-length, completed-lined, board-lined}
+use Rattle.graph.proofs.LineLaws.{completed-length, completed-lined, board-lined}
 use Rattle.graph.proofs.AimLaws.{all-in}
 use Rattle.graph.proofs.Orders.{table-back}
 use Rattle.graph.proofs.Begins.{few-lines, none-answers}
@@ -219,7 +219,7 @@ module _ (s : List ℕ) (r : Outcome) (i : IsCompleted s r) where
   completed-fits : (ps : Board) → chart s ≡ accepted ps → Fits s (record { graph = complete (givenGraph ps); cuts = 0 })
   completed-fits ps e =
       let l : CompletedLaws s (givenGraph ps) (complete (givenGraph ps)) = i .laws ps e in
-      let long : length (complete (givenGraph ps)) ≡ length ps = complete-length (givenGraph ps) ∙ length-map ps givenNode in
+      let long : length (complete (givenGraph ps)) ≡ length ps = completed-length ps in
       record {
         board = ps;
         read = e;

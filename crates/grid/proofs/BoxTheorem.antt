@@ -4,9 +4,10 @@ use Prim.Native.Nat.{ℕ, _+_, _*_, _≤_, _<_}
 use native.Mathlib.Omega.{arith}
 use mathlib.Core.Path.{_≡_, ap, _∙_}
 use mathlib.Core.List.{List}
-use lib.ListN.{length, length-map}
+use lib.ListN.{length}
 use Rattle.graph.specs.Graph.{Graph}
-use Rattle.graph.specs.Shape.{shapeOf, incidentsOf}
+use Rattle.graph.specs.Shape.{shapeOf}
+use Rattle.graph.proofs.EndsLaws.{shape-long}
 use Rattle.grid.specs.Lists.{largest}
 use Rattle.grid.specs.Columns.{columns}
 use Rattle.grid.specs.code.Placed.{Placed, FirstColumns}
@@ -20,17 +21,13 @@ use Rattle.grid.proofs.GridLaws.{box-theorem}
 use Rattle.grid.proofs.Totals.{reach-le, widths-le, heights-le}
 
 module _ (g : Graph) (first : List ℕ) (f : FirstColumns (length g) first) where
-  many : length (shapeOf g) ≡ length g
-  unfolding shapeOf
-  many = length-map g incidentsOf
-
   tall : length (heights (shapeOf g)) ≡ length g
-  tall = heights-long (shapeOf g) ∙ many
+  tall = heights-long (shapeOf g) ∙ shape-long g
 
   -- the columns of module 7 are below 3 times the number of boxes, and no two boxes have the same row and column
   pub placed : Placed (length g) (3 * length g) (heights (shapeOf g)) (columns (shapeOf g) (heights (shapeOf g)) first)
   placed =
-      columns-placed (length g) (heights (shapeOf g)) tall (shapeOf g) many first (first-placed (length g) (heights (shapeOf g)) first f)
+      columns-placed (length g) (heights (shapeOf g)) tall (shapeOf g) (shape-long g) first (first-placed (length g) (heights (shapeOf g)) first f)
 
   -- n nodes are given, and the cuts made the rest
   pub sheet-theorem : (n cuts : ℕ) → length g ≡ n + 2 * cuts → SheetTheorem n cuts g (sheet g cuts first)
@@ -48,7 +45,7 @@ module _ (g : Graph) (first : List ℕ) (f : FirstColumns (length g) first) wher
     rows-le : largest (heights (shapeOf g)) ≤ 47
     rows-le =
         let l : largest (heights (shapeOf g)) < 48 =
-        largest-below (heights (shapeOf g)) 48 (omega arith) (λ k h. omega (arith, many, heights-below (shapeOf g) k (omega (arith, heights-long (shapeOf g))))) in
+        largest-below (heights (shapeOf g)) 48 (omega arith) (λ k h. omega (arith, shape-long g, heights-below (shapeOf g) k (omega (arith, heights-long (shapeOf g))))) in
         omega arith
 
     pub columns-few : sheet g cuts first .columns ≤ 144

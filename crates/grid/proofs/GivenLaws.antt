@@ -20,6 +20,7 @@ use Rattle.graph.specs.Laws.{textsAt, Begins, Named, Laws}
 use Rattle.graph.proofs.AimLaws.{all-in}
 use Rattle.chart.specs.Read.{numbersOf}
 use Rattle.graph.proofs.Gathers.{graph-laws, board-walks}
+use Rattle.graph.proofs.EndsLaws.{shape-long}
 use Rattle.order.specs.Chains.{columns as firstColumns}
 use Rattle.grid.specs.declared.BoxRecord.{BoxRecord}
 use Rattle.grid.specs.declared.SheetRecord.{SheetRecord}
@@ -40,7 +41,7 @@ use Rattle.grid.proofs.ListLaws.{largest-below}
 use Rattle.grid.proofs.HeightLaws.{heights-long, depth-enough, reached-rows}
 use Rattle.grid.proofs.BoxTheorem.{placed}
 use Rattle.grid.proofs.TextLaws.{bytes, bytes-kept, Blank, blank}
-use Rattle.grid.proofs.Sheets.{firsts-of, shape-long, never-14, Made}
+use Rattle.grid.proofs.Sheets.{firsts-of, never-14, Made}
 use Rattle.grid.proofs.SoundLaws.{Drawing, drawing, Held, held, boxes-are, sheet-sound, Own, own}
 
 -- ---- a box's size, from the bytes of the texts on its ends and its lines

@@ -7,7 +7,7 @@ use mathlib.Core.Logic.{_⊎_, inl, inr, ⊎-elim}
 use mathlib.Core.Bool.{Bool, true, false, cond, _&&_}
 use mathlib.Core.List.{List, [], _∷_, _++_, map}
 use lib.Dec.{ltb}
-use lib.ListN.{length, getD, take, drop, replicate, length-append, length-map, List·getD-map}
+use lib.ListN.{length, getD, take, drop, replicate, length-append, List·getD-map}
 use lib.Seq.{getD-take, take-at}
 use borrow.Author.Tests.{ltb-true, ltb-false, le-leb}
 use Rattle.laws.specs.Lists.{All, padded}
@@ -17,7 +17,7 @@ use Rattle.chart.specs.declared.Answer.the-variants.{Ready, Refused}
 use Rattle.graph.specs.declared.Tables.{Tables}
 use Rattle.graph.specs.declared.Outcome.{Outcome as Graphing}
 use Rattle.graph.specs.Graph.{Edge, Graph, nodeAt}
-use Rattle.graph.specs.Shape.{Shape, targets, incidentsOf, shapeOf}
+use Rattle.graph.specs.Shape.{Shape, targets, shapeOf}
 use Rattle.graph.specs.declared.Ends.{Ends}
 use Rattle.graph.specs.Ends.{endsIn, shapeFrom, Linked}
 use Rattle.graph.specs.Graphed.{Dag, Graphed, ready as cut, refusal as refused, graphed}
@@ -26,7 +26,7 @@ use Rattle.graph.specs.code.Graphs.{dagIn, Graphs}
 use Rattle.graph.specs.Laws.{Aimed, Laws}
 use Rattle.graph.proofs.Gathers.{graph-laws}
 use Rattle.graph.proofs.Cuts.{length-graph}
-use Rattle.graph.proofs.EndsLaws.{shape-held, sources-long, sinks-long}
+use Rattle.graph.proofs.EndsLaws.{shape-held, sources-long, sinks-long, shape-long}
 use Rattle.order.specs.Chains.{columns as firstColumns}
 use Rattle.order.specs.Claims.{Under, Aimed as Led, EachOnce}
 use Rattle.order.specs.Ordered.{columnsIn}
@@ -356,10 +356,6 @@ shape-aims : (n : ℕ) (g : Graph) → Aimed n g → Led n (shapeOf g)
 unfolding shapeOf
 shape-aims n [] a = tt
 shape-aims n (p ∷ g) a = (under n (p .sources) (a .0 .sources), under n (p .sinks) (a .0 .sinks), shape-aims n g (a .1))
-
-pub shape-long : (g : Graph) → length (shapeOf g) ≡ length g
-unfolding shapeOf
-shape-long g = length-map g incidentsOf
 
 pub firsts-of : (g : Graph) → Aimed (length g) g → FirstColumns (length g) (firstColumns (shapeOf g))
 firsts-of g a =

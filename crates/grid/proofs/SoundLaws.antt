@@ -21,6 +21,7 @@ use Rattle.graph.specs.Graphed.{Dag, Graphed, ready as cut, refusal as refused,
 use Rattle.graph.specs.Laws.{ends, Laws}
 use Rattle.graph.proofs.AimLaws.{all-at}
 use Rattle.graph.proofs.Gathers.{graph-laws}
+use Rattle.graph.proofs.EndsLaws.{shape-long}
 use Rattle.order.specs.Chains.{columns as firstColumns}
 use Rattle.grid.specs.declared.Curve.{Curve}
 use Rattle.grid.specs.declared.SheetRecord.{SheetRecord}
@@ -40,7 +41,7 @@ use Rattle.grid.proofs.GridLaws.{box-within}
 use Rattle.grid.proofs.SheetLaws.{to-short, inputs-long}
 use Rattle.grid.proofs.PointLaws.{Even, InputIn, OutputIn, height-even, inputs-in, outputs-in}
 use Rattle.grid.proofs.BoxTheorem.{placed}
-use Rattle.grid.proofs.Sheets.{firsts-of, shape-long}
+use Rattle.grid.proofs.Sheets.{firsts-of}
 
 -- ---- boxes and curves in a sheet of this width and height
 pub record BoxIn (w h : ℕ) (b : Box) : Type 0 where

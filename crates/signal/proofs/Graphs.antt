@@ -5,7 +5,7 @@ use native.Mathlib.Omega.{arith}
 use mathlib.Core.Path.{_≡_, refl, ap, sym, _∙_, fun-ext}
 use mathlib.Core.Logic.{_⊎_, inl, inr}
 use mathlib.Core.List.{List, [], _∷_}
-use lib.ListN.{length}
+use lib.ListN.{length, List·getD-eq-default}
 use borrow.Author.Tests.{ne-eqb}
 use Rattle.laws.proofs.Tests.{less?}
 use Rattle.chart.specs.declared.Answer.{Answer}
@@ -14,7 +14,7 @@ use Rattle.chart.specs.Chart.{Reading, ready as accepted, refusal as refused, c
 use Rattle.graph.specs.declared.Item.{Item}
 use Rattle.graph.specs.declared.Tables.{Tables}
 use Rattle.graph.specs.declared.Outcome.{Outcome}
-use Rattle.graph.specs.Graph.{nodeAt, givenGraph}
+use Rattle.graph.specs.Graph.{bare, givenGraph, nodeAt}
 use Rattle.graph.specs.Completion.{complete}
 use Rattle.graph.specs.Graphed.{Dag, ready as whole, refusal as turned}
 use Rattle.graph.specs.Completed.{completing, completed}
@@ -24,13 +24,11 @@ use Rattle.graph.specs.Ends.{endsIn}
 use Rattle.graph.specs.code.Tables.{owned, itemsOf, linesOf, graphOf, Below, Linked}
 use Rattle.graph.proofs.Lists.{node-graph}
 use Rattle.graph.proofs.Cuts.{length-graph}
-use Rattle.graph.proofs.EndsLaws.{ends-held}
-use Rattle.graph.proofs.MutualLaws.{none-past}
+use Rattle.graph.proofs.EndsLaws.{shape-at, shape-long, ends-held}
 use Rattle.signal.specs.declared.SignalOrder.{SignalOrder}
 use Rattle.signal.specs.Signal.{Sources, sourcesIn, signalledBy, signalled, signals, refusal, signal}
 use Rattle.signal.specs.Outcome.{outcomeOf}
 use Rattle.signal.specs.code.Nodes.{sourcesOf}
-use Rattle.signal.proofs.SignalLaws.{shape-at, shape-long}
 
 -- a node past the others owns nothing
 owned-past : (n p : ℕ) (xs : List Item) → Below n xs → n ≤ p → owned p xs ≡ []
@@ -51,7 +49,7 @@ module _ (t : Tables) (l : Linked t) where
       go (inl h) = rw (node-graph (t .n) (linesOf t) (itemsOf (t .sources)) (itemsOf (t .sinks)) p h)
       go (inr h) =
           let z : length (graphOf t) ≤ p = omega (arith, size) in
-          rw (none-past (graphOf t) p z, owned-past (t .n) p (itemsOf (t .sources)) (l .source-owners) h)
+          rw (List·getD-eq-default (graphOf t) bare z, owned-past (t .n) p (itemsOf (t .sources)) (l .source-owners) h)
 
   pub arrays-hold : signalledBy (t .n) src ≡ signalled (shapeOf (graphOf t))
   arrays-hold =

@@ -8,7 +8,7 @@ use mathlib.Core.Logic.{_⊎_, inl, inr}
 use mathlib.Core.Bool.{Bool, true, false, cond, not, _&&_, _||_, false≢true, true≢false, and-eq-true-iff}
 use mathlib.Core.List.{List, [], _∷_, _++_}
 use lib.Dec.{eqb, ltb}
-use lib.ListN.{length, getD, take, length-map, List·getD-append, List·getD-map}
+use lib.ListN.{length, getD, take, List·getD-append, List·getD-eq-default}
 use lib.Seq.{take-append-le, take-append-seam, getD-append-seam}
 use borrow.Author.Tests.{eqb-true, eqb-false, ltb-true, ltb-false, not-true}
 use Rattle.laws.specs.Bytes.{allOf}
@@ -27,9 +27,10 @@ use Rattle.graph.specs.Graph.{Edge, Node, Graph, bare, givenGraph, nodeAt, lead
 use Rattle.graph.specs.Completion.{complete}
 use Rattle.graph.specs.Laws.{Aimed}
 use Rattle.graph.specs.Completed.{Mutual, CompletedLaws}
-use Rattle.graph.specs.Shape.{Incidents, Shape, incidentsAt, targets, incidentsOf, shapeOf}
+use Rattle.graph.specs.Shape.{Incidents, Shape, incidentsAt, targets, shapeOf}
 use Rattle.graph.proofs.AimLaws.{node-aims}
-use Rattle.graph.proofs.MutualLaws.{leads-in, none-past}
+use Rattle.graph.proofs.EndsLaws.{shape-at, shape-long}
+use Rattle.graph.proofs.MutualLaws.{leads-in}
 use Rattle.graph.proofs.Gathers.{completed-laws}
 use Rattle.signal.specs.Signal.{Sources, free, lowest, put, listed, firstOut, behind, back, left, backFrom, Signalled, ordered, cyclic, signalledBy, sourcesIn, signalled, signals, signal}
 use Rattle.signal.specs.declared.SignalOrder.{SignalOrder}
@@ -313,19 +314,11 @@ leads-has [] q = refl
 leads-has (e ∷ es) q = ap (λ (b : Bool). eqb (e .to) q || b) (leads-has es q)
 
 module _ (g : Graph) where
-  pub shape-at : (p : ℕ) → incidentsAt (shapeOf g) p ≡ incidentsOf (nodeAt g p)
-  unfolding shapeOf
-  shape-at p = List·getD-map incidentsOf g p bare
-
-  pub shape-long : length (shapeOf g) ≡ length g
-  unfolding shapeOf
-  shape-long = length-map g incidentsOf
-
   sinks-at : (p q : ℕ) → has q (incidentsAt (shapeOf g) p .sinks) ≡ leadsTo (nodeAt g p .sinks) q
-  sinks-at p q = ap (λ (x : Incidents). has q (x .sinks)) (shape-at p) ∙ leads-has (nodeAt g p .sinks) q
+  sinks-at p q = ap (λ (x : Incidents). has q (x .sinks)) (shape-at g p) ∙ leads-has (nodeAt g p .sinks) q
 
   sources-at : (p q : ℕ) → has p (incidentsAt (shapeOf g) q .sources) ≡ leadsTo (nodeAt g q .sources) p
-  sources-at p q = ap (λ (x : Incidents). has p (x .sources)) (shape-at q) ∙ leads-has (nodeAt g q .sources) p
+  sources-at p q = ap (λ (x : Incidents). has p (x .sources)) (shape-at g q) ∙ leads-has (nodeAt g q .sources) p
 
   shape-both : Mutual g → (p q : ℕ) → has q (incidentsAt (shapeOf g) p .sinks) ≡ has p (incidentsAt (shapeOf g) q .sources)
   shape-both m p q = sinks-at p q ∙ m p q ∙ sym (sources-at p q)
@@ -333,11 +326,11 @@ module _ (g : Graph) where
   shape-inside : Aimed (length g) g → (p q : ℕ) → Leads (shapeOf g) p q → (p < length (shapeOf g)) × (q < length (shapeOf g))
   shape-inside a p q e =
       let l : leadsTo (nodeAt g p .sinks) q ≡ true = sym (sinks-at p q) ∙ e in
-      rw shape-long (begins l (less? p (length g)), leads-in (length g) (nodeAt g p .sinks) q (node-aims (length g) g p a .sinks) l)
+      rw (shape-long g) (begins l (less? p (length g)), leads-in (length g) (nodeAt g p .sinks) q (node-aims (length g) g p a .sinks) l)
     where
       begins : leadsTo (nodeAt g p .sinks) q ≡ true → (p < length g) ⊎ (length g ≤ p) → p < length g
       begins l (inl h) = h
-      begins l (inr h) = absurd (false≢true (ap (λ (x : Node). leadsTo (x .sinks) q) (sym (none-past g p h)) ∙ l))
+      begins l (inr h) = absurd (false≢true (ap (λ (x : Node). leadsTo (x .sinks) q) (sym (List·getD-eq-default g bare h)) ∙ l))
 
 -- ---- the promise, from the answer's equation alone
 module _ (s : List ℕ) (r : SignalOrder) (w : r ≡ outcomeOf (signal s)) where
