@@ -1,5 +1,5 @@
-/* For bench/search: the charts of the file `charts` (each a length of four bytes and its bytes), laid out and written one after the other.
-   A line `chart REFUSED BOXES STACK BYTES` (of the layout's stack and of path text) for each. */
+/* For bench/search: the charts of the file `charts` (each a length of four bytes and its bytes), laid out, written and put in signal order one after
+   the other. A line `chart REFUSED BOXES STACK BYTES` (of the layout's stack and of path text) for each. */
 #include "start.h"
 
 static int get(int file, void *to, uint32_t bytes) {
@@ -16,6 +16,7 @@ int main(void) {
     uint32_t used = measured(call_sheet, stack_low);
     if (sheet.refused) written.count = 0;
     else call_text(), call_done();
+    call_signal_order(), call_done();
     say("chart"), say_number(sheet.refused, 10), say_number(sheet.sheet.count, 10), say_number(used, 10), say_number((uint32_t)written.count, 10), say("\n");
   }
   return 1;

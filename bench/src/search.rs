@@ -14,11 +14,12 @@ use generate::Random;
 const KEPT: usize = 12;
 const BATCH: usize = 24;
 
-/// What a chart takes. All 0 if it is refused.
+/// What a chart takes. If its sheet is refused, all 0 but for the stack and the signal order.
 #[derive(Clone, Copy, Default)]
 struct Taken {
     cycles: u64,
     text_cycles: u64,
+    order_cycles: u64,
     stack: u64,
     boxes: u64,
     text: u64,
@@ -28,12 +29,13 @@ struct Taken {
 type Measure = fn(&Taken) -> u64;
 
 /// Names of the charts looked for, and what each has the most of.
-const LOOKED_FOR: [(&str, Measure); 6] = [
+const LOOKED_FOR: [(&str, Measure); 7] = [
     ("slow", |t| t.cycles),
     ("slow48", |t| if t.boxes == 48 { t.cycles } else { 0 }),
     ("pairs", |t| t.pairs),
     ("text", |t| t.text),
     ("slowtext", |t| t.text_cycles),
+    ("sloworder", |t| t.order_cycles),
     ("deep", |t| t.stack),
 ];
 
@@ -155,13 +157,13 @@ impl Search {
                 panic!("the emulator said {line}");
             };
             let mut cycles = || counted.next().expect("cycles of a call")[1];
-            let mut taken = Taken { cycles: cycles(), boxes, stack, text, ..Taken::default() };
+            let mut taken = Taken { stack, ..Taken::default() };
+            let sheet_cycles = cycles();
             if refused == 0 {
-                taken.text_cycles = cycles();
-                taken.pairs = second::pairs(bodies).expect("a chart that is drawn").1 as u64;
-            } else {
-                taken = Taken { stack, ..Taken::default() };
+                let (text_cycles, pairs) = (cycles(), second::pairs(bodies).expect("a chart that is drawn").1 as u64);
+                taken = Taken { cycles: sheet_cycles, text_cycles, boxes, text, pairs, ..taken };
             }
+            taken.order_cycles = cycles();
             all.push(taken);
         }
         assert_eq!(all.len(), charts.len(), "the emulator said {said}");
@@ -255,7 +257,7 @@ fn main() {
     };
     let part = |share: f64| Duration::from_secs_f64(seconds * share);
     search.begin(&mut first, part(0.1));
-    for ((_, measure), share) in LOOKED_FOR.iter().zip([0.45, 0.2, 0.0, 0.15, 0.1, 0.0]) {
+    for ((_, measure), share) in LOOKED_FOR.iter().zip([0.35, 0.2, 0.0, 0.15, 0.1, 0.1, 0.0]) {
         if share > 0.0 {
             search.climb(*measure, &first, part(share));
         }

@@ -15,15 +15,14 @@ use Rattle.laws.specs.Each.{each}
 use Rattle.laws.specs.Lists.{has, one, keep, padded, stackOf}
 use Rattle.laws.proofs.Each.{next}
 use Rattle.laws.proofs.Lists.{one-more, drop-end, length-one, padded-set, take-padded, stack-last}
-use Rattle.laws.proofs.Tests.{pick}
 use Rattle.walks.specs.Walks.{upTo, walk}
 use Rattle.walks.proofs.Few.{has-append}
 use Rattle.graph.specs.Ends.{targetsOf}
-use Rattle.signal.specs.Signal.{Sources, free, lowest, put, listed, firstOut, behind, back, left, backFrom, signalledBy}
+use Rattle.signal.specs.Signal.{Sources, isLeft, free, lowest, put, listed, firstOut, behind, back, backFrom, signalledBy}
 use Rattle.chart.specs.declared.Answer.the-variants.{Ready, Refused}
 use Rattle.signal.specs.declared.Nodes.{Nodes}
 use Rattle.signal.specs.Outcome.{outcomeOf}
-use Rattle.signal.specs.code.Nodes.{listOf}
+use Rattle.signal.specs.code.Nodes.{sourcesOf, IsOut, listOf}
 
 -- ---- the first n of an array, from k on
 module _ (xs : List ℕ) (n : ℕ) (long : n ≤ length xs) where
@@ -43,65 +42,47 @@ module _ (xs : List ℕ) (n : ℕ) (long : n ≤ length xs) where
   in-none p k h i = let e : k ≡ n = omega arith in rw (e, drop-end n xs long)
 
 -- ---- the sources of p, from record k on
-abbrev pub rest : List ℕ → List ℕ → ℕ → ℕ → ℕ → List ℕ
+abbrev rest : List ℕ → List ℕ → ℕ → ℕ → ℕ → List ℕ
 rest owner to count p k = targetsOf p (drop k (take count owner)) (drop k (take count to))
 
-module _ (owner to : List ℕ) (count : ℕ) (long : count ≤ length owner) (wide : count ≤ length to) (p : ℕ) where
-  rest-next : (k : ℕ) → k < count → rest owner to count p k ≡ keep (eqb (getD owner k 0) p) (getD to k 0) (rest owner to count p (k + 1))
-  rest-next k h = rw (from-next owner count long k h, from-next to count wide k h)
+-- they answer for all
+pub record Rest (owner to : List ℕ) (count : ℕ) (done : List ℕ) (p k : ℕ) : Type 0 where
+  pub within : k ≤ count
+  pub all : allOf (λ q. has q done) (sourcesOf owner to count p) ≡ allOf (λ q. has q done) (rest owner to count p k)
+  pub first : firstOut done (sourcesOf owner to count p) ≡ firstOut done (rest owner to count p k)
 
-  pub rest-own : (k : ℕ) → k < count → getD owner k 0 ≡ p → rest owner to count p k ≡ getD to k 0 ∷ rest owner to count p (k + 1)
-  rest-own k h e = rest-next k h ∙ rw (eq-eqb (getD owner k 0) p e)
+pub rest-all : (owner to : List ℕ) (count : ℕ) (done : List ℕ) (p : ℕ) → Rest owner to count done p 0
+rest-all owner to count done p = record { within = omega arith; all = refl; first = refl }
 
-  pub rest-other : (k : ℕ) → k < count → (getD owner k 0 ≡ p → ⊥) → rest owner to count p k ≡ rest owner to count p (k + 1)
-  rest-other k h e = rest-next k h ∙ rw (ne-eqb (getD owner k 0) p e)
+module _ (owner to : List ℕ) (count : ℕ) (long : count ≤ length owner) (wide : count ≤ length to) (done : List ℕ) (p k : ℕ) (r : Rest owner to count done p k) where
+  module _ (h : k < count) where
+    rest-next : rest owner to count p k ≡ keep (eqb (getD owner k 0) p) (getD to k 0) (rest owner to count p (k + 1))
+    rest-next = rw (from-next owner count long k h, from-next to count wide k h)
 
-  pub rest-none : (k : ℕ) → count ≤ k → k ≤ count → rest owner to count p k ≡ []
-  rest-none k h i = let e : k ≡ count = omega arith in rw (e, drop-end count owner long)
+    -- record k is a source of p, which is listed or not; or another node's
+    module _ (own : getD owner k 0 ≡ p) where
+      rest-own : rest owner to count p k ≡ getD to k 0 ∷ rest owner to count p (k + 1)
+      rest-own = rest-next ∙ rw (eq-eqb (getD owner k 0) p own)
 
--- ---- the lowest free number, and the lowest one left, from p on
-pub lowest-next : (src : Sources) (done : List ℕ) (n p : ℕ) → p < n → lowest (n - p) src done p ≡ cond (free src done p) p (lowest (n - (p + 1)) src done (p + 1))
-lowest-next src done n p h =
-    let e : n - p ≡ suc (n - (p + 1)) = omega arith in
-    ap (λ (k : ℕ). lowest k src done p) e ∙ ap (λ (r : ℕ). cond (free src done p) p (lowest (n - (p + 1)) src done r)) (sym (add-one p))
+      pub out-here : has (getD to k 0) done ≡ false → IsOut owner to count done p k
+      out-here e =
+          let n : (k ≡ count → ⊥) = λ i. omega arith in
+          record { all = r .all ∙ rw (rest-own, e, ne-eqb k count n); first = r .first ∙ rw (rest-own, e, lt-ltb k count h) }
 
-pub lowest-none : (src : Sources) (done : List ℕ) (n p : ℕ) → n ≤ p → p ≤ n → lowest (n - p) src done p ≡ n
-lowest-none src done n p h i =
-    let e : n - p ≡ 0 = omega arith in
-    let d : p ≡ n = omega arith in
-    ap (λ (k : ℕ). lowest k src done p) e ∙ d
+      pub out-next : has (getD to k 0) done ≡ true → Rest owner to count done p (k + 1)
+      out-next e = record { within = omega arith; all = r .all ∙ rw (rest-own, e); first = r .first ∙ rw (rest-own, e) }
 
-pub left-next : (done : List ℕ) (n p : ℕ) → p < n → left (n - p) done p ≡ cond (has p done) (left (n - (p + 1)) done (p + 1)) p
-left-next done n p h =
-    let e : n - p ≡ suc (n - (p + 1)) = omega arith in
-    ap (λ (k : ℕ). left k done p) e ∙ ap (λ (r : ℕ). cond (has p done) (left (n - (p + 1)) done r) p) (sym (add-one p))
+    pub out-other : (getD owner k 0 ≡ p → ⊥) → Rest owner to count done p (k + 1)
+    out-other n =
+        let e : rest owner to count p k ≡ rest owner to count p (k + 1) = rest-next ∙ rw (ne-eqb (getD owner k 0) p n) in
+        record { within = omega arith; all = r .all ∙ rw e; first = r .first ∙ rw e }
 
-pub left-none : (done : List ℕ) (n p : ℕ) → n ≤ p → p ≤ n → left (n - p) done p ≡ n
-left-none done n p h i =
-    let e : n - p ≡ 0 = omega arith in
-    let d : p ≡ n = omega arith in
-    ap (λ (k : ℕ). left k done p) e ∙ d
-
--- ---- a source is listed, or not
-module _ (owner to : List ℕ) (count : ℕ) (long : count ≤ length owner) (wide : count ≤ length to) (p : ℕ) (done : List ℕ) (k : ℕ) (h : k < count) where
-  module _ (own : getD owner k 0 ≡ p) where
-    pub all-out : has (getD to k 0) done ≡ false → allOf (λ q. has q done) (rest owner to count p k) ≡ false
-    all-out e = rw (rest-own owner to count long wide p k h own, e)
-
-    pub all-in : has (getD to k 0) done ≡ true → allOf (λ q. has q done) (rest owner to count p k) ≡ allOf (λ q. has q done) (rest owner to count p (k + 1))
-    all-in e = rw (rest-own owner to count long wide p k h own, e)
-
-    pub out-here : has (getD to k 0) done ≡ false → firstOut done (rest owner to count p k) ≡ getD to k 0
-    out-here e = rw (rest-own owner to count long wide p k h own, e)
-
-    pub out-next : has (getD to k 0) done ≡ true → firstOut done (rest owner to count p k) ≡ firstOut done (rest owner to count p (k + 1))
-    out-next e = rw (rest-own owner to count long wide p k h own, e)
-
-  pub all-other : (getD owner k 0 ≡ p → ⊥) → allOf (λ q. has q done) (rest owner to count p k) ≡ allOf (λ q. has q done) (rest owner to count p (k + 1))
-  all-other n = ap (allOf (λ q. has q done)) (rest-other owner to count long wide p k h n)
-
-  pub out-other : (getD owner k 0 ≡ p → ⊥) → firstOut done (rest owner to count p k) ≡ firstOut done (rest owner to count p (k + 1))
-  out-other n = ap (firstOut done) (rest-other owner to count long wide p k h n)
+  pub out-none : count ≤ k → IsOut owner to count done p count
+  out-none h =
+      let i : k ≡ count = omega (arith, r .within) in
+      let e : rest owner to count p k ≡ [] = rw (i, drop-end count owner long) in
+      let l : count ≤ count = omega arith in
+      record { all = r .all ∙ rw (e, eq-eqb count count refl); first = r .first ∙ rw (e, le-ltb count count l) }
 
 -- ---- p is free, or not
 pub free-listed : (src : Sources) (done : List ℕ) (p : ℕ) → has p done ≡ true → free src done p ≡ false
@@ -152,15 +133,26 @@ module _ (path : List ℕ) (depth q : ℕ) (nodes : List ℕ) (count k : ℕ) (c
 
 -- ---- one turn more of the list
 module _ (n : ℕ) (src : Sources) (i : ℕ) where
-  listed-next : listed n src (i + 1) ≡ put n (listed n src i) (lowest n src (listed n src i) 0)
+  listed-next : listed n src (i + 1) ≡ put n (listed n src i) (lowest n (free src (listed n src i)) 0)
   unfolding listed
-  listed-next = next [] (λ k done. put n done (lowest n src done 0)) i
+  listed-next = next [] (λ k done. put n done (lowest n (free src done) 0)) i
 
-  pub listed-put : (p : ℕ) → p ≡ lowest n src (listed n src i) 0 → p < n → listed n src (i + 1) ≡ listed n src i ++ one p
+  pub listed-put : (p : ℕ) → p ≡ lowest n (free src (listed n src i)) 0 → p < n → listed n src (i + 1) ≡ listed n src i ++ one p
   listed-put p e h = listed-next ∙ rw (← e, lt-ltb p n h)
 
-  pub listed-stays : (p : ℕ) → p ≡ lowest n src (listed n src i) 0 → n ≤ p → listed n src (i + 1) ≡ listed n src i
+  listed-stays : (p : ℕ) → p ≡ lowest n (free src (listed n src i)) 0 → n ≤ p → listed n src (i + 1) ≡ listed n src i
   listed-stays p e h = listed-next ∙ rw (← e, le-ltb p n h)
+
+-- where none is free after i turns, no later turn lists one
+listed-stuck : (more n : ℕ) (src : Sources) (i p : ℕ) → p ≡ lowest n (free src (listed n src i)) 0 → n ≤ p → listed n src (i + more) ≡ listed n src i
+listed-stuck zero n src i p e h = let z : i + 0 ≡ i = omega arith in ap (listed n src) z
+listed-stuck (suc more) n src i p e h =
+    let z : i + suc more ≡ i + more + 1 = omega arith in
+    let r = listed-stuck more n src i p e h in
+    ap (listed n src) z ∙ listed-stays n src (i + more) p (e ∙ ap (λ (d : List ℕ). lowest n (free src d) 0) (sym r)) h ∙ r
+
+pub listed-all : (n : ℕ) (src : Sources) (i p : ℕ) → i ≤ n → p ≡ lowest n (free src (listed n src i)) 0 → n ≤ p → listed n src n ≡ listed n src i
+listed-all n src i p l e h = let z : n ≡ i + (n - i) = omega arith in ap (listed n src) z ∙ listed-stuck (n - i) n src i p e h
 
 -- the array holds the list
 pub record Holds (nodes : List ℕ) (done : ℕ) (l : List ℕ) : Type 0 where
@@ -172,20 +164,13 @@ held-list nodes done l h few =
     let m : length l ≤ 32 = omega (arith, h .long) in
     rw (h .held, h .long) (take-padded 32 0 l m)
 
-pub held-one : (nodes : List ℕ) (done : ℕ) (l : List ℕ) (p : ℕ) → Holds nodes done l → Holds (set nodes done p) (done + 1) (l ++ one p)
-held-one nodes done l p h = record { held = rw (h .held, h .long) (padded-set 32 0 l p); long = omega (arith, h .long, length-one l p) }
+pub held-one : (nodes : List ℕ) (done : ℕ) (l m : List ℕ) (p : ℕ) → Holds nodes done l → m ≡ l ++ one p → Holds (set nodes done p) (done + 1) m
+held-one nodes done l m p h e = record { held = rw (h .held, h .long, e) (padded-set 32 0 l p); long = rw e (omega (arith, h .long, length-one l p)) }
 
-pub held-is : (nodes : List ℕ) (done : ℕ) (l m : List ℕ) → Holds nodes done l → m ≡ l → Holds nodes done m
-held-is nodes done l m h e = rw e h
-
-pub held-whole : (nodes : List ℕ) (done : ℕ) (l : List ℕ) → Holds nodes done l → (record { count = done; nodes = nodes }) ≡ listOf l
-held-whole nodes done l h = rw (h .held, h .long)
+pub held-whole : (nodes : List ℕ) (done : ℕ) (l m : List ℕ) → Holds nodes done l → m ≡ l → (record { count = done; nodes = nodes }) ≡ listOf m
+held-whole nodes done l m h e = rw (h .held, h .long, e)
 
 -- ---- back along a path
-pub left-in : (k : ℕ) (done : List ℕ) (p : ℕ) → left k done p ≤ p + k
-left-in zero done p = omega arith
-left-in (suc k) done p = pick (λ (r : ℕ). r ≤ p + suc k) (has p done) (left k done (suc p)) p (omega (arith, left-in k done (suc p))) (omega arith)
-
 or-swap : (a b : Bool) → (a || (b || false)) ≡ (b || a)
 or-swap true true = refl
 or-swap true false = refl
@@ -236,7 +221,7 @@ module _ (src : Sources) (done : List ℕ) (n : ℕ) (path : List ℕ) (depth q 
           whole = ap (walk (back src done) (n - (depth + 1))) s ∙ step-by false e;
         }
 
-pub back-first : (src : Sources) (done : List ℕ) (n : ℕ) (path : List ℕ) (first q : ℕ) → length path ≡ 32 → first ≡ left n done 0 → q ≡ behind src done first → Back src done n (set path 0 first) 1 q
+pub back-first : (src : Sources) (done : List ℕ) (n : ℕ) (path : List ℕ) (first q : ℕ) → length path ≡ 32 → first ≡ lowest n (isLeft done) 0 → q ≡ behind src done first → Back src done n (set path 0 first) 1 q
 unfolding backFrom
 back-first src done n path first q l e f =
     let h : 0 < length path = omega arith in

@@ -1,4 +1,5 @@
 -- Laws of what specs/ defines, and of the code.
+pub mod Lowest
 pub mod SignalLaws
 pub mod Codes
 pub mod Graphs

@@ -1,6 +1,6 @@
 -- An order has each node once, each after its sources, at each place the lowest free number; where none is free there is a cycle.
 -- Assumes nothing.
-use Prim.Native.Nat.{ℕ, zero, suc, _+_, _-_, _≤_, _<_}
+use Prim.Native.Nat.{ℕ, suc, _+_, _-_, _≤_, _<_}
 use native.Mathlib.Omega.{arith}
 use native.Mathlib.Nat.{not-suc-le-zero}
 use mathlib.Core.Path.{_≡_, refl, ap, sym, _∙_, subst}
@@ -10,18 +10,18 @@ use mathlib.Core.List.{List, [], _∷_, _++_}
 use lib.Dec.{eqb, ltb}
 use lib.ListN.{length, getD, take, List·getD-append, List·getD-eq-default}
 use lib.Seq.{take-append-le, take-append-seam, getD-append-seam}
-use borrow.Author.Tests.{eqb-true, eqb-false, ltb-true, ltb-false, not-true}
+use borrow.Author.Tests.{eqb-true, eqb-false, ltb-true, ltb-false, not-true, not-false}
 use Rattle.laws.specs.Bytes.{allOf}
 use Rattle.laws.specs.Lists.{All, has, placeOf, one, padded}
 use Rattle.laws.proofs.Each.{each-holds}
 use Rattle.laws.proofs.Lists.{length-one, all-join, take-padded}
-use Rattle.laws.proofs.Tests.{same?, less?, pick-by}
+use Rattle.laws.proofs.Tests.{less?, pick-by}
 use Rattle.walks.specs.Walks.{Distinct, Cycle, walk}
 use Rattle.walks.proofs.Few.{has-cases, has-more, has-first, distinct-one, every, few, many, place-in, place-early}
 use Rattle.walks.proofs.WalkLaws.{walk-cycle, walk-enough, no-cycle, cycle-by, cycle-all}
 use Rattle.chart.specs.declared.Answer.{Answer}
 use Rattle.chart.specs.declared.Answer.the-variants.{Ready, Refused}
-use Rattle.chart.specs.Chart.{Reading, ready as accepted, refusal as unread, chart}
+use Rattle.chart.specs.Chart.{Board, Reading, ready as accepted, refusal as unread, chart}
 use Rattle.chart.specs.Read.{numbersOf}
 use Rattle.graph.specs.Graph.{Edge, Node, Graph, bare, givenGraph, nodeAt, leadsTo}
 use Rattle.graph.specs.Completion.{complete}
@@ -32,9 +32,10 @@ use Rattle.graph.proofs.AimLaws.{node-aims}
 use Rattle.graph.proofs.EndsLaws.{shape-at, shape-long}
 use Rattle.graph.proofs.MutualLaws.{leads-in}
 use Rattle.graph.proofs.Gathers.{completed-laws}
-use Rattle.signal.specs.Signal.{Sources, free, lowest, put, listed, firstOut, behind, back, left, backFrom, Signalled, ordered, cyclic, signalledBy, sourcesIn, signalled, signals, signal}
+use Rattle.signal.specs.Signal.{Sources, isLeft, free, lowest, put, listed, firstOut, behind, back, backFrom, Signalled, ordered, cyclic, signalledBy, sourcesIn, signalled, completedOf, signals, signal}
 use Rattle.signal.specs.declared.SignalOrder.{SignalOrder}
 use Rattle.signal.specs.Outcome.{outcomeOf}
+use Rattle.signal.proofs.Lowest.{Lowest, is-lowest}
 use Rattle.signal.specs.Laws.{Leads, Order, nodesOf, Signals, IsSignalOrder}
 
 -- ---- tests
@@ -63,41 +64,15 @@ first-out done (x ∷ qs) e = go (has x done) refl e (first-out done qs)
     go false i e f = record { there = has-first x qs; unlisted = i }
 
 module _ (n : ℕ) (src : Sources) where
-  -- ---- the lowest free number
-  record Lowest (done : List ℕ) (k p r : ℕ) : Type 0 where
-    above : p ≤ r
-    within : r ≤ p + k
-    is-free : r < p + k → free src done r ≡ true
-    none : (q : ℕ) → p ≤ q → q < r → free src done q ≡ false
-
-  is-lowest : (done : List ℕ) (k p : ℕ) → Lowest done k p (lowest k src done p)
-  is-lowest done zero p =
-      record { above = omega arith; within = omega arith; is-free = λ h. absurd (let l : p < p + 0 = h in omega arith); none = λ q h l. absurd (omega arith) }
-  is-lowest done (suc k) p =
-      pick-by (Lowest done (suc k) p) (free src done p) p (lowest k src done (suc p))
-      (λ e. record { above = omega arith; within = omega arith; is-free = λ h. e; none = λ q h l. absurd (omega arith) })
-      (λ e.
-      let o = is-lowest done k (suc p) in
-      record {
-        above = omega (arith, o .above);
-        within = omega (arith, o .within);
-        is-free = λ h. o .is-free (omega (arith, h));
-        none = λ q h l. low e o q h l (same? q p);
-      })
-    where
-      low : free src done p ≡ false → Lowest done k (suc p) (lowest k src done (suc p)) → (q : ℕ) → p ≤ q → q < lowest k src done (suc p) → (q ≡ p) ⊎ (q ≡ p → ⊥) → free src done q ≡ false
-      low e o q h l (inl i) = subst (λ (z : ℕ). free src done z ≡ false) (sym i) e
-      low e o q h l (inr i) = o .none q (omega arith) l
-
   -- ---- the list after k turns
   pub record Listed (k : ℕ) (done : List ℕ) : Type 0 where
     pub once : Distinct done
     pub inside : All (λ p. p < n) done
-    pub turns : (length done ≡ k) ⊎ (lowest n src done 0 ≡ n)
+    pub turns : (length done ≡ k) ⊎ (lowest n (free src done) 0 ≡ n)
     pub frees : (i : ℕ) → i < length done → free src (take i done) (getD done i 0) ≡ true
     pub lows : (i q : ℕ) → i < length done → q < getD done i 0 → free src (take i done) q ≡ false
 
-  module _ (k : ℕ) (done : List ℕ) (a : Listed k done) (r : ℕ) (o : Lowest done n 0 r) (e : lowest n src done 0 ≡ r) where
+  module _ (k : ℕ) (done : List ℕ) (a : Listed k done) (r : ℕ) (o : Lowest (free src done) n 0 r) (e : lowest n (free src done) 0 ≡ r) where
     -- an entry of the longer list, at a place before the last, and at the last
     module _ (P : List ℕ → ℕ → Type 0) (at : (i : ℕ) → i < length done → P (take i done) (getD done i 0)) (last : P done r) where
       one-more : (i : ℕ) → i < length (done ++ one r) → P (take i (done ++ one r)) (getD (done ++ one r) i 0)
@@ -112,7 +87,7 @@ module _ (n : ℕ) (src : Sources) where
               subst (λ (j : ℕ). P (take j (done ++ one r)) (getD (done ++ one r) j 0)) z (rw (take-append-seam done (one r), getD-append-seam done r [] 0) last)
 
     free-parts : r < n → (has r done ≡ false) × (allOf (λ q. has q done) (src r) ≡ true)
-    free-parts h = let b = and-eq-true-iff (not (has r done)) (allOf (λ q. has q done) (src r)) .0 (o .is-free (omega arith)) in (not-true (has r done) (b .0), b .1)
+    free-parts h = let b = and-eq-true-iff (not (has r done)) (allOf (λ q. has q done) (src r)) .0 (o .passes (omega arith)) in (not-true (has r done) (b .0), b .1)
 
     placed : r < n → Listed (suc k) (done ++ one r)
     placed h =
@@ -120,11 +95,11 @@ module _ (n : ℕ) (src : Sources) where
           once = distinct-one done r (a .once) (free-parts h .0);
           inside = all-join (λ p. p < n) done (one r) (a .inside) (h, tt);
           turns = inl (long (a .turns));
-          frees = one-more (λ d p. free src d p ≡ true) (a .frees) (o .is-free (omega arith));
+          frees = one-more (λ d p. free src d p ≡ true) (a .frees) (o .passes (omega arith));
           lows = λ i q h l. one-more (λ d p. (q : ℕ) → q < p → free src d q ≡ false) (λ j m q l. a .lows j q m l) (λ q l. o .none q (omega arith) l) i h q l;
         }
       where
-        long : (length done ≡ k) ⊎ (lowest n src done 0 ≡ n) → length (done ++ one r) ≡ suc k
+        long : (length done ≡ k) ⊎ (lowest n (free src done) 0 ≡ n) → length (done ++ one r) ≡ suc k
         long (inl i) = omega (arith, length-one done r)
         long (inr i) = absurd (omega arith)
 
@@ -144,8 +119,8 @@ module _ (n : ℕ) (src : Sources) where
   is-listed : Listed n (listed n src n)
   unfolding listed
   is-listed =
-      each-holds Listed (λ i done. put n done (lowest n src done 0)) n
-      (λ k done h a. turned k done a (lowest n src done 0) (is-lowest done n 0) refl) []
+      each-holds Listed (λ i done. put n done (lowest n (free src done) 0)) n
+      (λ k done h a. turned k done a (lowest n (free src done) 0) (is-lowest (free src done) n 0) refl) []
       (record { once = tt; inside = tt; turns = inl refl; frees = λ i h. absurd (not-suc-le-zero h); lows = λ i q h l. absurd (not-suc-le-zero h) }) n (omega arith)
 
   -- p is a source of q
@@ -170,15 +145,15 @@ module _ (n : ℕ) (src : Sources) where
 
     -- ---- some are left
     module _ (done : List ℕ) (a : Listed n done) (short : length done ≡ n → ⊥) where
-      none-free : lowest n src done 0 ≡ n
+      none-free : lowest n (free src done) 0 ≡ n
       none-free = go (a .turns)
         where
-          go : (length done ≡ n) ⊎ (lowest n src done 0 ≡ n) → lowest n src done 0 ≡ n
+          go : (length done ≡ n) ⊎ (lowest n (free src done) 0 ≡ n) → lowest n (free src done) 0 ≡ n
           go (inl e) = absurd (short e)
           go (inr e) = e
 
       waits : (p : ℕ) → p < n → free src done p ≡ false
-      waits p h = is-lowest done n 0 .none p (omega arith) (omega (arith, none-free))
+      waits p h = is-lowest (free src done) n 0 .none p (omega arith) (omega (arith, none-free))
 
       -- a node left has a source left
       source-left : (p : ℕ) → p < n → has p done ≡ false → Out done (src p) (behind src done p)
@@ -193,22 +168,25 @@ module _ (n : ℕ) (src : Sources) where
       Good [] = ⊥
       Good (x ∷ rest) = (x < n) × (has x done ≡ false)
 
-      first-left : (k p : ℕ) → p + k ≡ n → ((q : ℕ) → q < p → has q done ≡ true) → (left k done p < n) × (has (left k done p) done ≡ false)
-      first-left zero p e f =
-          let m : p ≤ length done = many p done f in
-          let l : length done ≤ n = few n done (a .once) (a .inside) in
-          absurd (short (omega arith))
-      first-left (suc k) p e f =
-          pick-by (λ (r : ℕ). (r < n) × (has r done ≡ false)) (has p done) (left k done (suc p)) p
-          (λ t. first-left k (suc p) (omega arith) (λ q h. earlier t q (same? q p) h))
-          (λ t. (omega arith, t))
-        where
-          earlier : has p done ≡ true → (q : ℕ) → (q ≡ p) ⊎ (q ≡ p → ⊥) → q < suc p → has q done ≡ true
-          earlier t q (inl i) h = subst (λ (z : ℕ). has z done ≡ true) (sym i) t
-          earlier t q (inr i) h = f q (omega arith)
+      -- where the walk back begins
+      abbrev begin : ℕ
+      begin = lowest n (isLeft done) 0
 
-      starts : (left n done 0 < n) × (has (left n done 0) done ≡ false)
-      starts = first-left n 0 (omega arith) (λ q h. absurd (not-suc-le-zero h))
+      some-left : begin < n
+      some-left = go (less? begin n)
+        where
+          o : Lowest (isLeft done) n 0 begin
+          o = is-lowest (isLeft done) n 0
+
+          go : (begin < n) ⊎ (n ≤ begin) → begin < n
+          go (inl h) = h
+          go (inr h) =
+              let m : n ≤ length done = many n done (λ q l. not-false (has q done) (o .none q (omega arith) (omega arith))) in
+              let l : length done ≤ n = few n done (a .once) (a .inside) in
+              absurd (short (omega arith))
+
+      starts : (begin < n) × (has begin done ≡ false)
+      starts = (some-left, not-true (has begin done) (is-lowest (isLeft done) n 0 .passes (let h = some-left in omega arith)))
 
       below : (x : ℕ) (rest : List ℕ) → Good (x ∷ rest) → back src done (x ∷ rest) < n
       below x rest g = aims (behind src done x) x (source-left x (g .0) (g .1) .there) .0
@@ -221,12 +199,12 @@ module _ (n : ℕ) (src : Sources) where
 
       shown : Cycle From (backFrom n src done)
       unfolding backFrom
-      shown = walk-cycle n From (back src done) Good below related goes-on (n - 1) (left n done 0) starts (starts .0) (omega arith)
+      shown = walk-cycle n From (back src done) Good below related goes-on (n - 1) begin starts (starts .0) (omega arith)
 
       -- the walk back ends by itself: no bound is used up
-      pub back-enough : (more : ℕ) → walk (back src done) (n - 1 + more) (one (left n done 0)) ≡ backFrom n src done
+      pub back-enough : (more : ℕ) → walk (back src done) (n - 1 + more) (one begin) ≡ backFrom n src done
       unfolding backFrom
-      back-enough more = walk-enough n From (back src done) Good below related goes-on more (n - 1) (left n done 0) starts (starts .0) (omega arith)
+      back-enough more = walk-enough n From (back src done) Good below related goes-on more (n - 1) begin starts (starts .0) (omega arith)
 
     -- ---- an order, or a cycle
     record Told (r : Signalled) : Type 0 where
@@ -267,46 +245,58 @@ module _ (g : Shape) (inside : (p q : ℕ) → Leads g p q → (p < length g) ×
         lowest = λ i q h l. a .lows i q (omega (arith, long)) l;
       }
 
-  module _ (few-nodes : length g ≤ 32) (r : SignalOrder) (w : r ≡ outcomeOf (signalled g)) where
+  cycle-inside : (cs : List ℕ) → Cycle (Leads g) cs → All (λ p. p < length g) cs
+  cycle-inside = cycle-all (Leads g) (λ p. p < length g) (λ p q e. inside p q e .0)
+
+  module _ (s : List ℕ) (given-nodes : length g ≡ getD s 1 0) (few-nodes : length g ≤ 32) (r : SignalOrder) (w : r ≡ outcomeOf (signalled g)) where
     -- the nodes handed over are the list
     handed : (l : List ℕ) → r .count ≡ length l → r .nodes ≡ padded 32 0 l → length l ≤ 32 → nodesOf r ≡ l
     handed l c n h = rw (c, n) (take-padded 32 0 l h)
 
-    cycle-few : (cs : List ℕ) → Cycle (Leads g) cs → length cs ≤ 32
-    cycle-few cs c = omega (arith, few (length g) cs (c .distinct) (cycle-all (Leads g) (λ p. p < length g) (λ p q e. inside p q e .0) cs c))
-
     not-both : (a : Answer) → a ≡ Ready → a ≡ Refused 20 0 → ⊥
     not-both a d e = let z : _≡_ {A = ℕ} 0 1 = cc in omega arith
 
-    pub says : Signals g r
+    -- the count is within the array, and the promise
+    pub says : (r .count ≤ 32) × Signals s g r
     says = go (tells (length g) src aims .told)
       where
-        go : ((os : List ℕ) × (signalled g ≡ ordered os) × Listed (length g) src (length g) os × (length os ≡ length g)) ⊎ ((cs : List ℕ) × (signalled g ≡ cyclic cs) × Cycle (From (length g) src) cs) → Signals g r
+        go : ((os : List ℕ) × (signalled g ≡ ordered os) × Listed (length g) src (length g) os × (length os ≡ length g)) ⊎ ((cs : List ℕ) × (signalled g ≡ cyclic cs) × Cycle (From (length g) src) cs) → (r .count ≤ 32) × Signals s g r
         go (inl t) =
             let v : r ≡ outcomeOf (ordered (t .0)) = w ∙ ap outcomeOf (t .1) in
-            let e : nodesOf r ≡ t .0 = handed (t .0) (ap (λ (y : SignalOrder). y .count) v) (ap (λ (y : SignalOrder). y .nodes) v) (omega (arith, t .3)) in
-            let a : r .answer ≡ Ready = ap (λ (y : SignalOrder). y .answer) v in
-            record {
-              both = both;
-              either = inl a;
-              order = λ h. rw e (is-order (t .0) (t .2) (t .3));
-              cycle = λ h. absurd (not-both (r .answer) a h);
-              refused = λ cs c. absurd (unknotted (length g) src aims (t .0) (t .2) (t .3) cs (cycle-by (Leads g) (From (length g) src) sourced cs c));
-              given = λ h. a;
-            }
+            let k : r .count ≡ length (t .0) = ap (λ (y : SignalOrder). y .count) v in
+            let e : nodesOf r ≡ t .0 = handed (t .0) k (ap (λ (y : SignalOrder). y .nodes) v) (omega (arith, t .3)) in
+            let a : r .answer ≡ Ready = ap (λ (y : SignalOrder). y .answer) v in (
+              omega (arith, k, t .3),
+              record {
+                nodes = given-nodes;
+                both = both;
+                inside = rw e (t .2 .inside);
+                either = inl a;
+                order = λ h. rw e (is-order (t .0) (t .2) (t .3));
+                cycle = λ h. absurd (not-both (r .answer) a h);
+                refused = λ cs c. absurd (unknotted (length g) src aims (t .0) (t .2) (t .3) cs (cycle-by (Leads g) (From (length g) src) sourced cs c));
+                given = λ h. a;
+              },
+            )
         go (inr t) =
             let v : r ≡ outcomeOf (cyclic (t .0)) = w ∙ ap outcomeOf (t .1) in
+            let k : r .count ≡ length (t .0) = ap (λ (y : SignalOrder). y .count) v in
             let c : Cycle (Leads g) (t .0) = cycle-by (From (length g) src) (Leads g) sunk (t .0) (t .2) in
-            let e : nodesOf r ≡ t .0 = handed (t .0) (ap (λ (y : SignalOrder). y .count) v) (ap (λ (y : SignalOrder). y .nodes) v) (cycle-few (t .0) c) in
-            let a : r .answer ≡ Refused 20 0 = ap (λ (y : SignalOrder). y .answer) v in
-            record {
-              both = both;
-              either = inr a;
-              order = λ h. absurd (not-both (r .answer) h a);
-              cycle = λ h. rw e c;
-              refused = λ cs h. a;
-              given = λ h. absurd (h (t .0) c);
-            }
+            let f : length (t .0) ≤ length g = few (length g) (t .0) (c .distinct) (cycle-inside (t .0) c) in
+            let e : nodesOf r ≡ t .0 = handed (t .0) k (ap (λ (y : SignalOrder). y .nodes) v) (omega arith) in
+            let a : r .answer ≡ Refused 20 0 = ap (λ (y : SignalOrder). y .answer) v in (
+              omega arith,
+              record {
+                nodes = given-nodes;
+                both = both;
+                inside = rw e (cycle-inside (t .0) c);
+                either = inr a;
+                order = λ h. absurd (not-both (r .answer) h a);
+                cycle = λ h. rw e c;
+                refused = λ cs h. a;
+                given = λ h. absurd (h (t .0) c);
+              },
+            )
 
 -- ---- the shape of a completed graph
 leads-has : (es : List Edge) (q : ℕ) → has q (targets es) ≡ leadsTo es q
@@ -338,13 +328,21 @@ module _ (s : List ℕ) (r : SignalOrder) (w : r ≡ outcomeOf (signal s)) where
   unfolding signal
   read-is c e = w ∙ ap (λ (x : Reading). outcomeOf (signals x)) e
 
+  accepts : (ps : Board) → chart s ≡ accepted ps → (r .count ≤ 32) × Signals s (completedOf ps) r
+  accepts ps e =
+      let g : Graph = complete (givenGraph ps) in
+      let l : CompletedLaws s (givenGraph ps) g = completed-laws s ps e in
+      says (shapeOf g) (shape-inside g (l .aimed)) (shape-both g (l .both)) s (shape-long g ∙ l .nodes) (omega (arith, shape-long g, l .few)) r (read-is (accepted ps) e)
+
+  count-few : (c : Reading) → chart s ≡ c → r .count ≤ 32
+  count-few (accepted ps) e = accepts ps e .0
+  count-few (unread a b) e = omega (arith, ap (λ (o : SignalOrder). o .count) (read-is (unread a b) e))
+
   pub is-signal-order : IsSignalOrder s r
   is-signal-order =
       record {
         whole = w;
+        few = count-few (chart s) refl;
         refused = λ a b e. ap (λ (o : SignalOrder). numbersOf (o .answer)) (read-is (unread a b) e);
-        laws = λ ps e.
-            let g : Graph = complete (givenGraph ps) in
-            let l : CompletedLaws s (givenGraph ps) g = completed-laws s ps e in
-            says (shapeOf g) (shape-inside g (l .aimed)) (shape-both g (l .both)) (omega (arith, shape-long g, l .few)) r (read-is (accepted ps) e);
+        laws = λ ps e. accepts ps e .1;
       }

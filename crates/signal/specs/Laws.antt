@@ -1,12 +1,12 @@
 -- What is promised of each order, and of each cycle.
 -- Assumes nothing.
-use Prim.Native.Nat.{ℕ, _<_}
+use Prim.Native.Nat.{ℕ, _≤_, _<_}
 use mathlib.Core.Path.{_≡_}
 use mathlib.Core.Logic.{_⊎_}
 use mathlib.Core.Bool.{true, false}
 use mathlib.Core.List.{List}
 use lib.ListN.{length, getD, take}
-use Rattle.laws.specs.Lists.{has, placeOf}
+use Rattle.laws.specs.Lists.{All, has, placeOf}
 use Rattle.walks.specs.Walks.{Distinct, Cycle}
 use Rattle.chart.specs.declared.Answer.the-variants.{Ready, Refused}
 use Rattle.chart.specs.Chart.{Board, ready as accepted, refusal as unread, chart}
@@ -36,10 +36,14 @@ pub record Order (g : Shape) (os : List ℕ) : Type 0 where
 abbrev pub nodesOf : SignalOrder → List ℕ
 nodesOf r = take (r .count) (r .nodes)
 
--- what `signal_order` promises of an accepted chart, where g is its completed graph
-pub record Signals (g : Shape) (r : SignalOrder) : Type 0 where
+-- what `signal_order` promises of the accepted chart s, where g is its completed graph
+pub record Signals (s : List ℕ) (g : Shape) (r : SignalOrder) : Type 0 where
+  -- g has the given nodes: 'Byte 1 is n'
+  pub nodes : length g ≡ getD s 1 0
   -- sources and sinks name each other: so a node is free once each node with a sink to it is listed
   pub both : (p q : ℕ) → has q (incidentsAt g p .sinks) ≡ has p (incidentsAt g q .sources)
+  -- given nodes are handed over, and no other number
+  pub inside : All (λ p. p < length g) (nodesOf r)
   -- an order or 20, and no other refusal
   pub either : (r .answer ≡ Ready) ⊎ (r .answer ≡ Refused 20 0)
   pub order : r .answer ≡ Ready → Order g (nodesOf r)
@@ -53,6 +57,8 @@ pub record Signals (g : Shape) (r : SignalOrder) : Type 0 where
 pub record IsSignalOrder (s : List ℕ) (r : SignalOrder) : Type 0 where
   -- every field, past the count too
   pub whole : r ≡ outcomeOf (signal s)
+  -- whatever the chart, the nodes are in the array
+  pub few : r .count ≤ 32
   -- a chart that 1 to 12 refuses: document 01's two numbers
   pub refused : (number second : ℕ) → chart s ≡ unread number second → numbersOf (r .answer) ≡ numbers number second
-  pub laws : (board : Board) → chart s ≡ accepted board → Signals (completedOf board) r
+  pub laws : (board : Board) → chart s ≡ accepted board → Signals s (completedOf board) r

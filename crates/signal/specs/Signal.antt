@@ -18,14 +18,18 @@ use Rattle.graph.specs.Shape.{Shape, incidentsAt, shapeOf}
 abbrev pub Sources : Type 0
 Sources = ℕ → List ℕ
 
--- p is not listed, and each of its sources is
-abbrev pub free : Sources → List ℕ → ℕ → Bool
-free src done p = not (has p done) && allOf (λ q. has q done) (src p)
+-- p is left: it is not listed
+abbrev pub isLeft : List ℕ → ℕ → Bool
+isLeft done p = not (has p done)
 
--- the first free of k numbers from p on; the number after them where none is free
-abbrev pub lowest : ℕ → Sources → List ℕ → ℕ → ℕ
-lowest zero src done p = p
-lowest (suc k) src done p = cond (free src done p) p (lowest k src done (suc p))
+-- p is left, and each of its sources is listed
+abbrev pub free : Sources → List ℕ → ℕ → Bool
+free src done p = isLeft done p && allOf (λ q. has q done) (src p)
+
+-- the first of k numbers from p on that passes the test; the number after them where none does
+abbrev pub lowest : ℕ → (ℕ → Bool) → ℕ → ℕ
+lowest zero test p = p
+lowest (suc k) test p = cond (test p) p (lowest k test (suc p))
 
 -- p after the others, if it is one of n
 abbrev pub put : ℕ → List ℕ → ℕ → List ℕ
@@ -34,7 +38,7 @@ put n done p = cond (ltb p n) (done ++ one p) done
 -- k times 'the lowest free number next'
 unfoldable pub listed : ℕ → Sources → ℕ → List ℕ
 unfolding each
-listed n src k = each [] (λ i done. put n done (lowest n src done 0)) k
+listed n src k = each [] (λ i done. put n done (lowest n (free src done) 0)) k
 
 -- the first of them that is not listed
 abbrev pub firstOut : List ℕ → List ℕ → ℕ
@@ -50,15 +54,10 @@ abbrev pub back : Sources → List ℕ → List ℕ → ℕ
 back src done [] = 0
 back src done (p ∷ path) = behind src done p
 
--- the first of k numbers from p on that is not listed
-abbrev pub left : ℕ → List ℕ → ℕ → ℕ
-left zero done p = p
-left (suc k) done p = cond (has p done) (left k done (suc p)) p
-
 -- from the lowest node left, back to sources that are left, until a node comes again
 unfoldable pub backFrom : ℕ → Sources → List ℕ → List ℕ
 unfolding walk
-backFrom n src done = walk (back src done) (n - 1) (one (left n done 0))
+backFrom n src done = walk (back src done) (n - 1) (one (lowest n (isLeft done) 0))
 
 -- an order, a cycle (refusal 20), or another refusal with its two numbers
 pub data Signalled : Type 0 where

@@ -6,9 +6,9 @@ ghost use Rattle.laws.specs.Lists.{has, stackOf};
 ghost use Rattle.walks.specs.Walks.{upTo};
 ghost use Rattle.graph.specs.Shape.{shapeOf};
 ghost use Rattle.graph.specs.code.Tables.{Linked, graphOf};
-ghost use Rattle.signal.specs.Signal.{free, lowest, listed, behind, left, backFrom, signalledBy, signalled, refusal};
+ghost use Rattle.signal.specs.Signal.{isLeft, free, lowest, listed, behind, backFrom, signalledBy, signalled, refusal};
 ghost use Rattle.signal.specs.Outcome.{outcomeOf};
-ghost use Rattle.signal.specs.code.Nodes.{sourcesOf, listOf};
+ghost use Rattle.signal.specs.code.Nodes.{sourcesOf, IsOut, listOf};
 ghost use Rattle.signal.specs.Laws.{IsSignalOrder};
 use chart::Answer;
 use graph::Tables;
@@ -42,6 +42,32 @@ fn is_in(nodes: &[u8; 32], count: usize, p: u8) -> bool
     false
 }
 
+// The first record of a source of p that is not among the first done nodes; count where each of them is.
+fn first_out(
+    owner: &[u8; 88],
+    to: &[u8; 88],
+    count: usize,
+    nodes: &[u8; 32],
+    done: usize,
+    p: u8,
+) -> usize
+    requires { ⌜ (count ≤ 88) × (done ≤ 32) ⌝ }
+    ensures { λ r. ⌜ IsOut (now (owner .entry)) (now (to .entry)) count (take done (now (nodes .entry))) p r ⌝ }
+{
+    let os: &[u8] = owner;
+    let ts: &[u8] = to;
+    let mut k = 0usize;
+    while k < count {
+        if os[k] == p {
+            if !is_in(nodes, done, ts[k]) {
+                return k;
+            }
+        }
+        k += 1;
+    }
+    count
+}
+
 // Whether p is free: it is not among the first done nodes, and each of its sources is.
 fn is_free(
     owner: &[u8; 88],
@@ -57,18 +83,7 @@ fn is_free(
     if is_in(nodes, done, p) {
         return false;
     }
-    let os: &[u8] = owner;
-    let ts: &[u8] = to;
-    let mut k = 0usize;
-    while k < count {
-        if os[k] == p {
-            if !is_in(nodes, done, ts[k]) {
-                return false;
-            }
-        }
-        k += 1;
-    }
-    true
+    first_out(owner, to, count, nodes, done, p) == count
 }
 
 // The lowest free number, n where none is free.
@@ -81,7 +96,7 @@ fn lowest_free(
     n: usize,
 ) -> usize
     requires { ⌜ (count ≤ 88) × (done ≤ 32) × (n ≤ 32) ⌝ }
-    ensures { λ r. ⌜ r ≡ lowest n (sourcesOf (now (owner .entry)) (now (to .entry)) count) (take done (now (nodes .entry))) 0 ⌝ }
+    ensures { λ r. ⌜ r ≡ lowest n (free (sourcesOf (now (owner .entry)) (now (to .entry)) count) (take done (now (nodes .entry)))) 0 ⌝ }
 {
     let mut p = 0usize;
     while p < n {
@@ -93,7 +108,7 @@ fn lowest_free(
     n
 }
 
-// The lowest free number next, n times.
+// The lowest free number next, as long as there is one.
 fn list_nodes(owner: &[u8; 88], to: &[u8; 88], count: usize, n: usize) -> Nodes
     requires { ⌜ (count ≤ 88) × (n ≤ 32) ⌝ }
     ensures whole { λ r. ⌜ r ≡ listOf (listed n (sourcesOf (now (owner .entry)) (now (to .entry)) count) n) ⌝ }
@@ -101,14 +116,13 @@ fn list_nodes(owner: &[u8; 88], to: &[u8; 88], count: usize, n: usize) -> Nodes
 {
     let mut nodes = [0u8; 32];
     let mut done = 0usize;
-    let mut i = 0usize;
-    while i < n {
+    while done < n {
         let p = lowest_free(owner, to, count, &nodes, done, n);
-        if p < n {
-            nodes[done] = p as u8;
-            done += 1;
+        if n <= p {
+            break;
         }
-        i += 1;
+        nodes[done] = p as u8;
+        done += 1;
     }
     Nodes {
         count: done,
@@ -119,7 +133,7 @@ fn list_nodes(owner: &[u8; 88], to: &[u8; 88], count: usize, n: usize) -> Nodes
 // The lowest number that is not among the first done nodes.
 fn first_left(nodes: &[u8; 32], done: usize, n: usize) -> usize
     requires { ⌜ (done ≤ 32) × (n ≤ 32) ⌝ }
-    ensures { λ r. ⌜ r ≡ left n (take done (now (nodes .entry))) 0 ⌝ }
+    ensures { λ r. ⌜ r ≡ lowest n (isLeft (take done (now (nodes .entry)))) 0 ⌝ }
 {
     let mut q = 0usize;
     while q < n {
@@ -143,17 +157,9 @@ fn source_left(
     requires { ⌜ (count ≤ 88) × (done ≤ 32) ⌝ }
     ensures { λ r. ⌜ r ≡ behind (sourcesOf (now (owner .entry)) (now (to .entry)) count) (take done (now (nodes .entry))) p ⌝ }
 {
-    let os: &[u8] = owner;
-    let ts: &[u8] = to;
-    let mut k = 0usize;
-    while k < count {
-        if os[k] == p {
-            let t = ts[k];
-            if !is_in(nodes, done, t) {
-                return t;
-            }
-        }
-        k += 1;
+    let k = first_out(owner, to, count, nodes, done, p);
+    if k < count {
+        return to[k];
     }
     0
 }

@@ -6,9 +6,10 @@ use mathlib.Core.Path.{_≡_, sym, _∙_, refl, ap}
 use mathlib.Core.Bool.{true, false}
 use lib.ListN.{take, replicate}
 use Rattle.laws.specs.Lists.{has}
-use Rattle.signal.specs.Signal.{left}
+use Rattle.signal.specs.Signal.{isLeft}
 use Rattle.signal.specs.code.Nodes.{sourcesOf, listOf}
-use Rattle.signal.proofs.Codes.{Back, back-first, back-on, back-met, back-end, left-in}
+use Rattle.signal.proofs.Codes.{Back, back-first, back-on, back-met, back-end}
+use Rattle.signal.proofs.Lowest.{is-lowest}
 use borrow.Author.Needs.{needs}
 use Rattle.signal.proofs.find_cycle.Statement.{statement}
 use Rattle.signal.proofs.find_cycle.Tie as tie
@@ -23,7 +24,7 @@ first-left-requires : tie.Need-first-left-requires Inv-loop μ-loop
 first-left-requires c κs = search needs
 
 cast-first : tie.Need-cast-first Inv-loop μ-loop
-cast-first c = let a = c .before .args in let h = left-in (a .n) (take (a .done) (a .nodes .now)) 0 in let e = c .first-left .ensures in omega arith
+cast-first c = let a = c .before .args in let h = is-lowest (isLeft (take (a .done) (a .nodes .now))) (a .n) 0 .within in let e = c .first-left .ensures in omega arith
 
 array-write-path : tie.Need-array-write-path Inv-loop μ-loop
 array-write-path c = search needs
