@@ -94,8 +94,8 @@ typedef struct {
     uint32_t fixed, at, len;
 } margalhosa_part_result;
 
-/* The first `count` nodes: all of the chart, in order; refused by 20, those of a cycle; refused by 1 to 12, none. The
-   entries past them are 0. */
+/* The first `count` nodes, 32 at most: all of the chart, in order; refused by 20, those of a cycle; refused by 1 to 12,
+   none. The entries past them are 0. */
 typedef struct {
     uint32_t refused, second;
     uint8_t count;
