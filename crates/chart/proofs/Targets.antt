@@ -6,40 +6,39 @@ use native.Mathlib.Numerals.{add-one}
 use mathlib.Core.Path.{_≡_, refl, ap, sym, _∙_}
 use mathlib.Core.Option.{Option, none, some}
 use mathlib.Core.Bool.{Bool, true, false, cond}
-use mathlib.Core.List.{List, [], _∷_, _++_, map}
-use lib.Dec.{eqb, ltb}
-use lib.ListN.{length, getD, take, drop, drop-of-length-le, length-map}
-use lib.Seq.{drop-cons, getD-take, length-take-le}
+use mathlib.Core.List.{List, [], _∷_, _++_}
+use lib.Dec.{ltb}
+use lib.ListN.{length, getD, drop}
 use borrow.Author.Tests.{lt-ltb, le-ltb, eq-eqb, ne-eqb}
 use Rattle.chart.specs.declared.Item.{Item}
 use Rattle.chart.specs.declared.Table.{Table}
 use Rattle.chart.specs.declared.Line.{Line}
 use Rattle.chart.specs.declared.judge.Outside.{Outside}
 use Rattle.chart.specs.declared.judge.Outside.the-variants.{Nothing, Target}
-use Rattle.chart.specs.Chart.{Part, End, Node, Board, targets, targetsOf, firstOutside}
+use Rattle.chart.specs.Chart.{targets, targetsOf, firstOutside}
 use Rattle.chart.specs.Tables.{noItem}
-use Rattle.chart.specs.code.Filled.{endOf, owned, itemsOf, nodeOf, boardFrom}
+use Rattle.chart.specs.code.Filled.{owned, itemsOf, nodeOf, boardFrom}
 use Rattle.chart.specs.code.Steps.{outsideOf}
 use Rattle.laws.specs.Lists.{tabulate}
-use Rattle.laws.proofs.Lists.{one-more}
+use Rattle.laws.proofs.Lists.{one-more, drop-up, drop-past}
 
 -- what is found among the records of q from k on
 abbrev pub looked : Table → ℕ → ℕ → ℕ → Outside
 looked t q n k = outsideOf (firstOutside (targets (owned q (drop k (itemsOf t)))) n)
 
 module _ (t : Table) (long : length (t .items) ≡ 64) (room : t .count ≤ 64) (q n k : ℕ) where
-  size : length (itemsOf t) ≡ t .count
-  size = length-take-le (t .count) (t .items) (omega arith)
+  within : t .count ≤ length (t .items)
+  within = omega arith
 
   pub looked-end : t .count ≤ k → looked t q n k ≡ Nothing
-  looked-end h = rw (drop-of-length-le (itemsOf t) {i = k} (omega (arith, size)))
+  looked-end h = rw (drop-past (t .count) (t .items) within k h)
 
   module _ (h : k < t .count) where
     abbrev it : Item
     it = getD (t .items) k noItem
 
     rest : drop k (itemsOf t) ≡ it ∷ drop (k + 1) (itemsOf t)
-    rest = rw (add-one k) (drop-cons (itemsOf t) k noItem (omega (arith, size)) ∙ rw (getD-take (t .count) (t .items) k noItem h))
+    rest = drop-up noItem (t .count) (t .items) within k h
 
     pub looked-other : (it .owner ≡ q → ⊥) → looked t q n k ≡ looked t q n (k + 1)
     looked-other o = rw (rest, ne-eqb (it .owner) q o)

@@ -7,35 +7,30 @@ use native.Mathlib.Nat.{le-of-suc-le-suc, not-suc-le-zero}
 use mathlib.Core.Path.{_≡_, ap, sym, _∙_, subst}
 use mathlib.Core.List.{List, [], _∷_, _++_}
 use lib.Dec.{eqb}
-use lib.ListN.{length, getD, set, take, drop, drop-of-length-le}
-use lib.Seq.{drop-cons, getD-take, length-take-le}
+use lib.ListN.{length, getD, set, take, drop}
+use lib.Seq.{getD-take, length-take-le}
 use borrow.Author.Tests.{eq-eqb, ne-eqb}
 use Rattle.laws.specs.Lists.{All, one, tabulate, keep, ownedBy, padded}
-use Rattle.laws.proofs.Lists.{padded-set, length-tabulate, getD-tabulate, tabulate-snoc, getD-padded}
+use Rattle.laws.proofs.Lists.{drop-up, drop-past, padded-set, length-tabulate, getD-tabulate, tabulate-snoc, getD-padded}
 
 -- ---- the first `count` records of an array, and those of them that p owns
 module _ {R W : Type 0} (owner : R → ℕ) (value : R → W) (z : R) (p : ℕ) (array : List R) (count : ℕ) (room : count ≤ length array) where
-  size : length (take count array) ≡ count
-  size = length-take-le count array room
-
   -- from record k on
   rest-at : (k : ℕ) → k < count →
       ownedBy owner value p (drop k (take count array))
-      ≡ keep (eqb (owner (getD array k z)) p) (value (getD array k z)) (ownedBy owner value p (drop (suc k) (take count array)))
-  rest-at k h =
-      ap (ownedBy owner value p) (drop-cons (take count array) k z (omega (arith, size)))
-      ∙ ap (λ (r : R). keep (eqb (owner r) p) (value r) (ownedBy owner value p (drop (suc k) (take count array)))) (getD-take count array k z h)
+      ≡ keep (eqb (owner (getD array k z)) p) (value (getD array k z)) (ownedBy owner value p (drop (k + 1) (take count array)))
+  rest-at k h = ap (ownedBy owner value p) (drop-up z count array room k h)
 
   pub own-up : (k : ℕ) → k < count → owner (getD array k z) ≡ p →
       ownedBy owner value p (drop k (take count array)) ≡ value (getD array k z) ∷ ownedBy owner value p (drop (k + 1) (take count array))
-  own-up k h e = rw (add-one k) (rest-at k h ∙ rw (eq-eqb (owner (getD array k z)) p e))
+  own-up k h e = rest-at k h ∙ rw (eq-eqb (owner (getD array k z)) p e)
 
   pub other-up : (k : ℕ) → k < count → (owner (getD array k z) ≡ p → ⊥) →
       ownedBy owner value p (drop k (take count array)) ≡ ownedBy owner value p (drop (k + 1) (take count array))
-  other-up k h e = rw (add-one k) (rest-at k h ∙ rw (ne-eqb (owner (getD array k z)) p e))
+  other-up k h e = rest-at k h ∙ rw (ne-eqb (owner (getD array k z)) p e)
 
   pub none-left : (k : ℕ) → count ≤ k → ownedBy owner value p (drop k (take count array)) ≡ []
-  none-left k h = let l : length (take count array) ≤ k = omega (arith, size) in ap (ownedBy owner value p) (drop-of-length-le (take count array) l)
+  none-left k h = ap (ownedBy owner value p) (drop-past count array room k h)
 
   -- the same where a loop counts down
   pub own-down : (k : ℕ) → 0 < k → k ≤ count → owner (getD array (k - 1) z) ≡ p →
@@ -62,17 +57,6 @@ module _ {A : Type 0} (f : ℕ → A) where
 pub filled-at : {A : Type 0} (f : ℕ → A) (m : ℕ) (z : A) (k i : ℕ) → k ≤ m → i < k → getD (padded m z (tabulate f 0 k)) i z ≡ f i
 filled-at f m z k i l h =
     getD-padded m z (tabulate f 0 k) i z (omega arith) ∙ getD-tabulate f 0 k i z h ∙ ap f (omega arith)
-
--- ---- the first n of an array, from record k on
-module _ {A : Type 0} (z : A) (xs : List A) (n : ℕ) (room : n ≤ length xs) where
-  pub up-cons : (k : ℕ) → k < n → drop k (take n xs) ≡ getD xs k z ∷ drop (k + 1) (take n xs)
-  up-cons k h =
-      drop-cons (take n xs) k z (omega (arith, length-take-le n xs room))
-      ∙ ap (λ (a : A). a ∷ drop (suc k) (take n xs)) (getD-take n xs k z h)
-      ∙ ap (λ (i : ℕ). getD xs k z ∷ drop i (take n xs)) (sym (add-one k))
-
-  pub up-end : (k : ℕ) → n ≤ k → drop k (take n xs) ≡ []
-  up-end k h = let l : length (take n xs) ≤ k = omega (arith, length-take-le n xs room) in drop-of-length-le (take n xs) l
 
 -- ---- what holds of each
 pub all-at : {A : Type 0} (P : A → Type 0) (z : A) (xs : List A) (i : ℕ) → i < length xs → All P xs → P (getD xs i z)

@@ -249,16 +249,24 @@ take-sets l xs h =
     let k : 0 + length xs ≤ length l = omega arith in
     ap (take (length xs)) (sets-eq xs l 0 k) ∙ take-append-seam xs (drop (0 + length xs) l)
 
--- ---- loops that count k down from n: what stands from k - 1 on, of the first n
+-- ---- the first n, from k on: loops that count k up
+pub drop-up : {A : Type 0} (d : A) (n : ℕ) (xs : List A) → n ≤ length xs → (k : ℕ) → k < n → drop k (take n xs) ≡ getD xs k d ∷ drop (k + 1) (take n xs)
+drop-up {A} d n xs l k h =
+    drop-cons (take n xs) k d (omega (arith, length-take-le n xs l))
+    ∙ ap (λ (y : A). y ∷ drop (suc k) (take n xs)) (getD-take n xs k d h)
+    ∙ ap (λ (i : ℕ). getD xs k d ∷ drop i (take n xs)) (sym (add-one k))
+
+pub drop-past : {A : Type 0} (n : ℕ) (xs : List A) → n ≤ length xs → (k : ℕ) → n ≤ k → drop k (take n xs) ≡ []
+drop-past n xs l k h = let m : length (take n xs) ≤ k = omega (arith, length-take-le n xs l) in drop-of-length-le (take n xs) m
+
+-- and those that count k down from n
 pub drop-down : {A : Type 0} (d : A) (n : ℕ) (xs : List A) → n ≤ length xs → (k : ℕ) → 0 < k → k ≤ n → drop (k - 1) (take n xs) ≡ getD xs (k - 1) d ∷ drop k (take n xs)
-drop-down {A} d n xs l k z h =
-    let e : suc (k - 1) ≡ k = omega arith in
-    drop-cons (take n xs) (k - 1) d (omega (arith, length-take-le n xs l))
-    ∙ ap (λ (y : A). y ∷ drop (suc (k - 1)) (take n xs)) (getD-take n xs (k - 1) d (omega arith))
-    ∙ ap (λ (i : ℕ). getD xs (k - 1) d ∷ drop i (take n xs)) e
+drop-down d n xs l k z h =
+    let e : k - 1 + 1 ≡ k = omega arith in
+    drop-up d n xs l (k - 1) (omega arith) ∙ ap (λ (i : ℕ). getD xs (k - 1) d ∷ drop i (take n xs)) e
 
 pub drop-end : {A : Type 0} (n : ℕ) (xs : List A) → n ≤ length xs → drop n (take n xs) ≡ []
-drop-end n xs l = let m : length (take n xs) ≤ n = omega (arith, length-take-le n xs l) in drop-of-length-le (take n xs) m
+drop-end n xs l = drop-past n xs l n (omega arith)
 
 -- ---- an array of one value
 pub set-replicate : {A : Type 0} (m p : ℕ) (a : A) → set (replicate m a) p a ≡ replicate m a

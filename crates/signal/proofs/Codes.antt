@@ -8,13 +8,13 @@ use mathlib.Core.Bool.{Bool, true, false, cond, _||_}
 use mathlib.Core.List.{List, [], _∷_, _++_, append-assoc, append-nil}
 use lib.Dec.{eqb}
 use lib.ListN.{length, getD, set, take, drop, replicate, length-set}
-use lib.Seq.{drop-cons, getD-take, length-take-le, take-suc}
+use lib.Seq.{take-suc}
 use borrow.Author.Tests.{eq-eqb, ne-eqb, lt-ltb, le-ltb}
 use Rattle.laws.specs.Bytes.{allOf}
 use Rattle.laws.specs.Each.{each}
 use Rattle.laws.specs.Lists.{has, one, keep, padded, stackOf}
 use Rattle.laws.proofs.Each.{next}
-use Rattle.laws.proofs.Lists.{one-more, drop-end, length-one, padded-set, take-padded, stack-last}
+use Rattle.laws.proofs.Lists.{one-more, drop-up, drop-past, length-one, padded-set, take-padded, stack-last}
 use Rattle.walks.specs.Walks.{upTo, walk}
 use Rattle.walks.proofs.Few.{has-append}
 use Rattle.graph.specs.Ends.{targetsOf}
@@ -24,22 +24,16 @@ use Rattle.signal.specs.declared.Nodes.{Nodes}
 use Rattle.signal.specs.Outcome.{outcomeOf}
 use Rattle.signal.specs.code.Nodes.{sourcesOf, IsOut, listOf}
 
--- ---- the first n of an array, from k on
-module _ (xs : List ℕ) (n : ℕ) (long : n ≤ length xs) where
-  pub from-next : (k : ℕ) → k < n → drop k (take n xs) ≡ getD xs k 0 ∷ drop (k + 1) (take n xs)
-  from-next k h =
-      let l : k < length (take n xs) = omega (arith, length-take-le n xs long) in
-      drop-cons (take n xs) k 0 l ∙ rw (getD-take n xs k 0 h, add-one k)
+-- ---- the first n of an array, from k on: the node at k is p, or another
+module _ (xs : List ℕ) (n : ℕ) (long : n ≤ length xs) (p k : ℕ) where
+  pub in-here : k < n → getD xs k 0 ≡ p → has p (drop k (take n xs)) ≡ true
+  in-here h e = rw (drop-up 0 n xs long k h, eq-eqb (getD xs k 0) p e)
 
-  -- the node at k is p, or another
-  pub in-here : (p k : ℕ) → k < n → getD xs k 0 ≡ p → has p (drop k (take n xs)) ≡ true
-  in-here p k h e = rw (from-next k h, eq-eqb (getD xs k 0) p e)
+  pub in-next : k < n → (getD xs k 0 ≡ p → ⊥) → has p (drop k (take n xs)) ≡ has p (drop (k + 1) (take n xs))
+  in-next h e = rw (drop-up 0 n xs long k h, ne-eqb (getD xs k 0) p e)
 
-  pub in-next : (p k : ℕ) → k < n → (getD xs k 0 ≡ p → ⊥) → has p (drop k (take n xs)) ≡ has p (drop (k + 1) (take n xs))
-  in-next p k h e = rw (from-next k h, ne-eqb (getD xs k 0) p e)
-
-  pub in-none : (p k : ℕ) → n ≤ k → k ≤ n → has p (drop k (take n xs)) ≡ false
-  in-none p k h i = let e : k ≡ n = omega arith in rw (e, drop-end n xs long)
+  pub in-none : n ≤ k → has p (drop k (take n xs)) ≡ false
+  in-none h = rw (drop-past n xs long k h)
 
 -- ---- the sources of p, from record k on
 abbrev rest : List ℕ → List ℕ → ℕ → ℕ → ℕ → List ℕ
@@ -57,7 +51,7 @@ rest-all owner to count done p = record { within = omega arith; all = refl; firs
 module _ (owner to : List ℕ) (count : ℕ) (long : count ≤ length owner) (wide : count ≤ length to) (done : List ℕ) (p k : ℕ) (r : Rest owner to count done p k) where
   module _ (h : k < count) where
     rest-next : rest owner to count p k ≡ keep (eqb (getD owner k 0) p) (getD to k 0) (rest owner to count p (k + 1))
-    rest-next = rw (from-next owner count long k h, from-next to count wide k h)
+    rest-next = rw (drop-up 0 count owner long k h, drop-up 0 count to wide k h)
 
     -- record k is a source of p, which is listed or not; or another node's
     module _ (own : getD owner k 0 ≡ p) where
@@ -79,8 +73,7 @@ module _ (owner to : List ℕ) (count : ℕ) (long : count ≤ length owner) (wi
 
   pub out-none : count ≤ k → IsOut owner to count done p count
   out-none h =
-      let i : k ≡ count = omega (arith, r .within) in
-      let e : rest owner to count p k ≡ [] = rw (i, drop-end count owner long) in
+      let e : rest owner to count p k ≡ [] = rw (drop-past count owner long k h) in
       let l : count ≤ count = omega arith in
       record { all = r .all ∙ rw (e, eq-eqb count count refl); first = r .first ∙ rw (e, le-ltb count count l) }
 

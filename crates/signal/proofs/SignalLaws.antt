@@ -14,10 +14,10 @@ use borrow.Author.Tests.{eqb-true, eqb-false, ltb-true, ltb-false, not-true, not
 use Rattle.laws.specs.Bytes.{allOf}
 use Rattle.laws.specs.Lists.{All, has, placeOf, one, padded}
 use Rattle.laws.proofs.Each.{each-holds}
-use Rattle.laws.proofs.Lists.{length-one, all-join, take-padded}
+use Rattle.laws.proofs.Lists.{length-one, all-join, take-padded, test-at}
 use Rattle.laws.proofs.Tests.{less?, pick-by}
 use Rattle.walks.specs.Walks.{Distinct, Cycle, walk}
-use Rattle.walks.proofs.Few.{has-cases, has-more, has-first, distinct-one, every, few, many, place-in, place-early}
+use Rattle.walks.proofs.Few.{has-more, has-first, distinct-one, every, few, many, place-in, place-early}
 use Rattle.walks.proofs.WalkLaws.{walk-cycle, walk-enough, no-cycle, cycle-by, cycle-all}
 use Rattle.chart.specs.declared.Answer.{Answer}
 use Rattle.chart.specs.declared.Answer.the-variants.{Ready, Refused}
@@ -38,14 +38,9 @@ use Rattle.signal.specs.Outcome.{outcomeOf}
 use Rattle.signal.proofs.Lowest.{Lowest, is-lowest}
 use Rattle.signal.specs.Laws.{Leads, Order, nodesOf, Signals, IsSignalOrder}
 
--- ---- tests
+-- ---- what all of them pass, one passes
 all-tested : (t : ℕ → Bool) (q : ℕ) (qs : List ℕ) → allOf t qs ≡ true → has q qs ≡ true → t q ≡ true
-all-tested t q [] e h = absurd (false≢true h)
-all-tested t q (x ∷ qs) e h = go (has-cases q x qs h) (all-tested t q qs (and-eq-true-iff (t x) (allOf t qs) .0 e .1))
-  where
-    go : (x ≡ q) ⊎ (has q qs ≡ true) → (has q qs ≡ true → t q ≡ true) → t q ≡ true
-    go (inl i) f = subst (λ (z : ℕ). t z ≡ true) i (and-eq-true-iff (t x) (allOf t qs) .0 e .0)
-    go (inr i) f = f i
+all-tested t q qs e h = let p = place-in q qs h in subst (λ (z : ℕ). t z ≡ true) (p .1) (test-at t 0 qs (placeOf q qs) (p .0) e)
 
 -- ---- the first that is not listed
 record Out (done qs : List ℕ) (q : ℕ) : Type 0 where

@@ -53,14 +53,6 @@ pub has-append : (p : ℕ) (xs ys : List ℕ) → has p (xs ++ ys) ≡ (has p xs
 has-append p [] ys = refl
 has-append p (x ∷ xs) ys = rw (has-append p xs ys) (or-assoc (eqb x p) (has p xs) (has p ys))
 
-pub all-has : (P : ℕ → Type 0) (p : ℕ) (xs : List ℕ) → All P xs → has p xs ≡ true → P p
-all-has P p [] a e = absurd (false≢true e)
-all-has P p (x ∷ xs) a e = go (has-cases p x xs e) (all-has P p xs (a .1))
-  where
-    go : (x ≡ p) ⊎ (has p xs ≡ true) → (has p xs ≡ true → P p) → P p
-    go (inl i) f = subst P i (a .0)
-    go (inr i) f = f i
-
 -- ---- one more after the others
 pub distinct-one : (xs : List ℕ) (p : ℕ) → Distinct xs → has p xs ≡ false → Distinct (xs ++ one p)
 distinct-one [] p d e = (refl, tt)

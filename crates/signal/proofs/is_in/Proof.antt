@@ -47,7 +47,7 @@ returns-2 : tie.Need-returns-2 Inv-loop μ-loop
 returns-2 c =
     let a = c .before .before .before .args in
     let l = c .before .loop in
-    sym (l .inv .1 ∙ in-none (a .nodes .now) (a .count) (omega (arith, long (c .before .before))) (a .p) (l .k) (omega arith) (l .inv .0))
+    sym (l .inv .1 ∙ in-none (a .nodes .now) (a .count) (omega (arith, long (c .before .before))) (a .p) (l .k) (omega arith))
 
 pub is-in-spec : {M : Type 1} → statement M
 is-in-spec =

@@ -1,13 +1,11 @@
 -- `record::boxes_near`: the invariant says what is found so far, or what is left to look at.
 -- Assumes nothing.
 use Prim.Native.Nat.{_-_, _≤_}
-use mathlib.Core.Path.{_≡_, refl, ap, sym, _∙_}
-use mathlib.Core.List.{map}
+use mathlib.Core.Path.{_≡_, refl, sym, _∙_}
 use native.Mathlib.Omega.{arith}
 use borrow.Author.Tests.{not-true, not-false}
-use lib.ListN.{length, drop, take}
-use Rattle.laws.proofs.Lists.{mapped-long}
-use Rattle.grid.proofs.Arrays.{up-cons, up-end}
+use lib.ListN.{length, drop}
+use Rattle.laws.proofs.Lists.{drop-up, drop-past, mapped-long}
 use Rattle.laws.specs.Bytes.{allOf}
 use Rattle.grid.specs.Record.{boxNear, boxesOf, noBox}
 use borrow.Author.Needs.{needs}
@@ -41,7 +39,7 @@ box-near-requires c κs = search needs
 returns : tie.Need-returns Inv-loop μ-loop
 returns c =
     let z = c .before .before .before .before .before in
-    rw (up-cons noBox (z .args .t1 .boxes) (z .args .t1 .count) (room z) (c .before .before .before .before .loop .k) (c .before .before .before .loop-test .taken), sym (c .before .box-near .ensures) ∙ not-true _ (c .if1 .taken)) at (c .before .before .before .before .loop .inv)
+    rw (drop-up noBox (z .args .t1 .count) (z .args .t1 .boxes) (room z) (c .before .before .before .before .loop .k) (c .before .before .before .loop-test .taken), sym (c .before .box-near .ensures) ∙ not-true _ (c .if1 .taken)) at (c .before .before .before .before .loop .inv)
 
 add-k : tie.Need-add-k Inv-loop μ-loop
 add-k c = search needs
@@ -52,12 +50,12 @@ loop-less c = search needs
 loop-again : tie.Need-loop-again Inv-loop μ-loop
 loop-again c =
     let z = c .before .before .before .before .before in
-    rw (up-cons noBox (z .args .t1 .boxes) (z .args .t1 .count) (room z) (c .before .before .before .before .loop .k) (c .before .before .before .loop-test .taken), sym (c .before .box-near .ensures) ∙ not-false _ (c .if1 .left)) at (c .before .before .before .before .loop .inv)
+    rw (drop-up noBox (z .args .t1 .count) (z .args .t1 .boxes) (room z) (c .before .before .before .before .loop .k) (c .before .before .before .loop-test .taken), sym (c .before .box-near .ensures) ∙ not-false _ (c .if1 .left)) at (c .before .before .before .before .loop .inv)
 
 returns-2 : tie.Need-returns-2 Inv-loop μ-loop
 returns-2 c =
     let z = c .before .before in
-    rw (up-end noBox (z .args .t1 .boxes) (z .args .t1 .count) (room z) (c .before .loop .k) (c .loop-test .left)) at (c .before .loop .inv)
+    rw (drop-past (z .args .t1 .count) (z .args .t1 .boxes) (room z) (c .before .loop .k) (c .loop-test .left)) at (c .before .loop .inv)
 
 pub boxes-near-spec : {M : Type 1} → statement M
 boxes-near-spec =
