@@ -2,9 +2,9 @@
 -- Assumes nothing.
 use Prim.Native.Nat.{ℕ, zero, suc, _+_, _-_, _*_, _≤_, _<_}
 use native.Mathlib.Omega.{arith}
-use native.Mathlib.Nat.{le-of-suc-le-suc, not-suc-le-zero, eq-or-lt-of-le}
+use native.Mathlib.Nat.{le-of-suc-le-suc, not-suc-le-zero}
 use native.Mathlib.Numerals.{add-one}
-use mathlib.Core.Path.{_≡_, refl, ap, sym, _∙_, subst}
+use mathlib.Core.Path.{_≡_, refl, ap, sym, _∙_}
 use mathlib.Core.Logic.{_⊎_, inl, inr}
 use mathlib.Core.Option.{Option, none, some}
 use mathlib.Core.Bool.{Bool, true, false, cond, _&&_, true≢false}
@@ -19,7 +19,7 @@ use Rattle.laws.specs.Each.{each}
 use Rattle.grid.specs.Lists.{largest, smallest}
 use Rattle.grid.specs.Columns.{at, taken, incidents, columnsOf, target, goTo, firstMove, firstMoves, clash, collision, extra, newColumns, renamed, pairsFrom, table, foldFrom, mean, nearer, rightOf, rightEnd, leftEnd, clamp, averageTo, averageOne, average, round, columns}
 use Rattle.grid.specs.code.Placed.{Placed, FirstColumns}
-use Rattle.grid.proofs.ListLaws.{or-right, at-largest, smallest-le, at-map, everywhere, store-below}
+use Rattle.grid.proofs.ListLaws.{or-right, some-below, at-largest, smallest-le, at-map, everywhere, store-below}
 use Rattle.laws.proofs.Each.{keeps}
 
 -- a box's own place is taken
@@ -127,12 +127,7 @@ module _ (n : ℕ) (rows : List ℕ) (tall : length rows ≡ n) where
 
 -- one row with both places taken is enough
 pub found : (rows cols : List ℕ) (x r n : ℕ) → r < n → clash rows cols x r ≡ true → collision rows cols x n ≡ true
-found rows cols x r zero l h = absurd (not-suc-le-zero l)
-found rows cols x r (suc n) l h =
-    elim (eq-or-lt-of-le (le-of-suc-le-suc l)) [
-      | inl e ↦ or-right (collision rows cols x n) (clash rows cols x n) (subst (λ (k : ℕ). clash rows cols x k ≡ true) e h)
-      | inr s ↦ rw (found rows cols x r n s h)
-    ]
+found rows cols x = some-below (collision rows cols x) (clash rows cols x) (λ k. refl)
 
 -- A table of new columns: no less than the first, at most one for each column, and the same only for the two of a pair that has no collision.
 module _ (more : ℕ → ℕ) where

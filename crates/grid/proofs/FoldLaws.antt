@@ -2,22 +2,21 @@
 -- Assumes nothing.
 use Prim.Native.Nat.{ℕ, zero, suc, _+_, _-_, _*_, _≤_, _<_, max}
 use native.Mathlib.Omega.{arith}
-use native.Mathlib.Nat.{le-of-suc-le-suc, not-suc-le-zero, zero-add}
+use native.Mathlib.Nat.{le-of-suc-le-suc, not-suc-le-zero}
 use native.Mathlib.Numerals.{add-one}
-use mathlib.Core.Path.{_≡_, refl, ap, sym, _∙_, subst}
-use mathlib.Core.Logic.{_⊎_, inl, inr}
+use mathlib.Core.Path.{_≡_, refl, ap, sym, _∙_}
 use mathlib.Core.Bool.{Bool, true, false, _&&_, _||_}
 use mathlib.Core.List.{List, [], _∷_, _++_, map, append-assoc, append-nil}
 use lib.Dec.{eqb}
-use lib.ListN.{length, getD, set, take, drop, replicate, length-take, length-set, drop-of-length-le}
-use lib.Seq.{getD-set-same, getD-set-other, getD-take, take-suc-set, ext-getD}
-use borrow.Author.Tests.{eq-eqb, ne-eqb}
-use Rattle.laws.proofs.Tests.{and-false, or-false, or-assoc, same?}
-use Rattle.laws.proofs.Lists.{length-tabulate, getD-tabulate, take-replicate}
+use lib.ListN.{length, set, take, drop, replicate, length-take, length-set, drop-of-length-le}
+use lib.Seq.{getD-take, take-suc-set}
+use borrow.Author.Tests.{ne-eqb}
+use Rattle.laws.proofs.Tests.{and-false, or-false, or-assoc}
+use Rattle.laws.proofs.Lists.{take-replicate}
 use Rattle.grid.specs.Lists.{largest}
-use Rattle.grid.specs.Columns.{at, taken, clash, collision, extra, newColumns, pairsFrom, table, foldFrom}
-use Rattle.grid.specs.code.Arrays.{inColumn, tableTo, nextNew}
-use Rattle.grid.proofs.ListLaws.{or-right, at-largest, largest-below}
+use Rattle.grid.specs.Columns.{at, taken, extra, newColumns, pairsFrom, table, foldFrom}
+use Rattle.grid.specs.code.Arrays.{tableTo, nextNew}
+use Rattle.grid.proofs.ListLaws.{at-largest, largest-below}
 use Rattle.grid.proofs.ColumnLaws.{taken-at}
 
 -- the largest from j on, of the first n
@@ -39,7 +38,7 @@ module _ (xs : List ℕ) (n : ℕ) where
       largest-more xs n (k - 1) (omega arith) ∙ ap (λ (i : ℕ). max (at xs (k - 1)) (largest (drop i (take n xs)))) e
 
 -- one box more
-taken-more : (rows cols : List ℕ) (k r x : ℕ) → k < length rows → k < length cols →
+pub taken-more : (rows cols : List ℕ) (k r x : ℕ) → k < length rows → k < length cols →
     taken (take (suc k) rows) (take (suc k) cols) r x ≡ taken (take k rows) (take k cols) r x || (eqb (at rows k) r && eqb (at cols k) x)
 taken-more [] cols k r x h l = absurd (not-suc-le-zero h)
 taken-more (y ∷ rows) [] k r x h l = absurd (not-suc-le-zero l)
@@ -59,73 +58,6 @@ module _ (rows cols : List ℕ) (k r x : ℕ) (h : k < length rows) (l : k < len
 pub taken-there : (rows cols : List ℕ) (n k r x : ℕ) → n ≤ length rows → n ≤ length cols → k < n → at rows k ≡ r → at cols k ≡ x → true ≡ taken (take n rows) (take n cols) r x
 taken-there rows cols n k r x lr lc h e f =
     sym (taken-at (take n rows) (take n cols) k r x (omega (arith, length-take n rows)) (omega (arith, length-take n cols)) (getD-take n rows k 0 h ∙ e) (getD-take n cols k 0 h ∙ f))
-
-in-column-at : (rows cols : List ℕ) (x r : ℕ) → r < 48 → getD (inColumn rows cols x) r false ≡ taken rows cols r x
-unfolding inColumn
-in-column-at rows cols x r h = getD-tabulate (λ q. taken rows cols q x) 0 48 r false h ∙ ap (λ (q : ℕ). taken rows cols q x) (zero-add r)
-
-in-column-long : (rows cols : List ℕ) (x : ℕ) → length (inColumn rows cols x) ≡ 48
-unfolding inColumn
-in-column-long rows cols x = length-tabulate (λ q. taken rows cols q x) 0 48
-
-module _ (rows cols : List ℕ) (x k : ℕ) (h : k < length rows) (l : k < length cols) where
-  abbrev now : List Bool
-  now = inColumn (take k rows) (take k cols) x
-
-  abbrev next : List Bool
-  next = inColumn (take (suc k) rows) (take (suc k) cols) x
-
-  -- box k is in another column
-  pub in-column-miss : (at cols k ≡ x → ⊥) → now ≡ next
-  in-column-miss o =
-      ext-getD false now next (in-column-long (take k rows) (take k cols) x ∙ sym (in-column-long (take (suc k) rows) (take (suc k) cols) x))
-      (λ r g. each r (subst (λ (m : ℕ). r < m) (in-column-long (take k rows) (take k cols) x) g))
-    where
-      each : (r : ℕ) → r < 48 → getD now r false ≡ getD next r false
-      each r g =
-          in-column-at (take k rows) (take k cols) x r g
-          ∙ sym (in-column-at (take (suc k) rows) (take (suc k) cols) x r g ∙ taken-more rows cols k r x h l
-          ∙ rw (ne-eqb (at cols k) x o, and-false (eqb (at rows k) r)) (or-false (taken (take k rows) (take k cols) r x)))
-
-  -- box k is in column x
-  pub in-column-hit : at cols k ≡ x → at rows k < 48 → set now (at rows k) true ≡ next
-  in-column-hit e b =
-      ext-getD false (set now (at rows k) true) next
-      (length-set now (at rows k) true ∙ in-column-long (take k rows) (take k cols) x ∙ sym (in-column-long (take (suc k) rows) (take (suc k) cols) x))
-      (λ r g. each r (subst (λ (m : ℕ). r < m) (length-set now (at rows k) true ∙ in-column-long (take k rows) (take k cols) x) g) (same? r (at rows k)))
-    where
-      after : (r : ℕ) → r < 48 → (t : Bool) → eqb (at rows k) r ≡ t → getD next r false ≡ taken (take k rows) (take k cols) r x || t
-      after r g t q = in-column-at (take (suc k) rows) (take (suc k) cols) x r g ∙ taken-more rows cols k r x h l ∙ rw (eq-eqb (at cols k) x e, q) (ap (λ (b : Bool). taken (take k rows) (take k cols) r x || b) (true-and t))
-        where
-          true-and : (b : Bool) → (b && true) ≡ b
-          true-and true = refl
-          true-and false = refl
-
-      each : (r : ℕ) → r < 48 → (r ≡ at rows k) ⊎ (r ≡ at rows k → ⊥) → getD (set now (at rows k) true) r false ≡ getD next r false
-      each r g (inl q) =
-          ap (λ (i : ℕ). getD (set now (at rows k) true) i false) q ∙ getD-set-same now (at rows k) true false (omega (arith, in-column-long (take k rows) (take k cols) x))
-          ∙ sym (after r g true (eq-eqb (at rows k) r (sym q)) ∙ or-right (taken (take k rows) (take k cols) r x) true refl)
-      each r g (inr o) =
-          getD-set-other now (at rows k) r true false o ∙ in-column-at (take k rows) (take k cols) x r g
-          ∙ sym (after r g false (ne-eqb (at rows k) r (λ q. o (sym q))) ∙ or-false (taken (take k rows) (take k cols) r x))
-
--- one row more without a collision, and a row with one
-pub next-row : (rows cols : List ℕ) (x r : ℕ) → collision rows cols x r ≡ false → clash rows cols x r ≡ false → collision rows cols x (r + 1) ≡ false
-next-row rows cols x r h k = rw (add-one r, h, k)
-
--- what the two columns' rows say of row r
-module _ (rows cols : List ℕ) (x r : ℕ) (left right : List Bool) (h : r < 48) (el : left ≡ inColumn rows cols x) (er : right ≡ inColumn rows cols (x + 1)) where
-  clash-is : clash rows cols x r ≡ (getD left r false && getD right r false)
-  clash-is = rw (el, er, in-column-at rows cols x r h, in-column-at rows cols (x + 1) r h)
-
-  pub clash-both : getD left r false ≡ true → getD right r false ≡ true → clash rows cols x r ≡ true
-  clash-both a b = clash-is ∙ rw (a, b)
-
-  pub clash-not-left : getD left r false ≡ false → clash rows cols x r ≡ false
-  clash-not-left a = clash-is ∙ rw a
-
-  pub clash-not-right : getD right r false ≡ false → clash rows cols x r ≡ false
-  clash-not-right a = clash-is ∙ rw a (and-false (getD left r false))
 
 -- one pair more
 module _ (more : ℕ → ℕ) where

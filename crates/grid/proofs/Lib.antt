@@ -3,6 +3,7 @@ pub mod ListLaws
 pub mod HeightLaws
 pub mod ColumnLaws
 pub mod FoldLaws
+pub mod UsedLaws
 pub mod AverageLaws
 pub mod LeadLaws
 pub mod PartLaws

@@ -2,8 +2,8 @@
 -- Assumes nothing.
 use Prim.Native.Nat.{ℕ, zero, suc, _≤_, _<_}
 use native.Mathlib.Omega.{arith}
-use native.Mathlib.Nat.{le-of-suc-le-suc, not-suc-le-zero}
-use mathlib.Core.Path.{_≡_, refl, ap, sym}
+use native.Mathlib.Nat.{le-of-suc-le-suc, not-suc-le-zero, eq-or-lt-of-le}
+use mathlib.Core.Path.{_≡_, refl, ap, sym, _∙_, subst}
 use mathlib.Core.Logic.{_⊎_, inl, inr}
 use mathlib.Core.Bool.{Bool, true, false, _||_}
 use mathlib.Core.List.{List, [], _∷_, _++_, map}
@@ -17,6 +17,16 @@ use Rattle.grid.specs.Columns.{at}
 pub or-right : (b c : Bool) → c ≡ true → (b || c) ≡ true
 or-right true c e = refl
 or-right false c e = e
+
+-- a test that some row below n passes: row r does
+pub some-below : (some test : ℕ → Bool) → ((k : ℕ) → some (suc k) ≡ some k || test k) → (r n : ℕ) → r < n → test r ≡ true → some n ≡ true
+some-below some test step r zero l h = absurd (not-suc-le-zero l)
+some-below some test step r (suc n) l h =
+    step n
+    ∙ elim (eq-or-lt-of-le (le-of-suc-le-suc l)) [
+      | inl e ↦ or-right (some n) (test n) (subst (λ (k : ℕ). test k ≡ true) e h)
+      | inr s ↦ rw (some-below some test step r n s h)
+    ]
 
 -- a number of the list is at most the largest
 pub at-largest : (xs : List ℕ) (k : ℕ) → k < length xs → at xs k ≤ largest xs

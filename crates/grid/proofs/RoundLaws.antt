@@ -1,7 +1,8 @@
 -- What the loops over nodes and rounds need: each step's columns are the definition's, and stay columns.
 -- Assumes nothing.
-use Prim.Native.Nat.{ℕ, _+_, _-_, _*_, _≤_, _<_}
+use Prim.Native.Nat.{ℕ, zero, suc, _+_, _-_, _*_, _≤_, _<_}
 use native.Mathlib.Omega.{arith}
+use native.Mathlib.Nat.{le-of-suc-le-suc, not-suc-le-zero}
 use mathlib.Core.Path.{_≡_, refl, ap, sym, _∙_}
 use mathlib.Core.List.{List, _++_}
 use lib.Dec.{ltb}
@@ -35,6 +36,22 @@ module _ (n : ℕ) (f : ℕ → List ℕ → List ℕ) (same : (p : ℕ) (l : Li
 each-same : (f : ℕ → List ℕ → List ℕ) → ((p : ℕ) (l : List ℕ) → length (f p l) ≡ length l) → (l : List ℕ) (k : ℕ) → length (each l f k) ≡ length l
 each-same f same l k = keeps (λ p u. length u ≡ length l) l f refl k (λ p u h e. same p u ∙ e)
 
+module _ (rows : List ℕ) where
+  pub fold-same : (x : ℕ) (cols : List ℕ) → length (foldFrom x rows cols) ≡ length cols
+  unfolding foldFrom
+  fold-same x cols = length-map cols (at (table x rows cols))
+
+  -- columns below b stay so
+  some-fold-below : (b x : ℕ) → x ≤ 1 → (cols : List ℕ) → Below b cols → Below b (foldFrom x rows cols)
+  unfolding foldFrom
+  some-fold-below b zero h cols = fold-below b rows cols (table 0 rows cols) (table0-folds rows cols)
+  some-fold-below b (suc zero) h cols = fold-below b rows cols (table 1 rows cols) (table1-folds rows cols)
+  some-fold-below b (suc (suc x)) h cols = absurd (not-suc-le-zero (le-of-suc-le-suc h))
+
+  -- the first k of the folds of a round
+  folds-below : (b : ℕ) (cols : List ℕ) → Below b cols → (k : ℕ) → k ≤ 2 → Below b (each cols (λ x. foldFrom x rows) k)
+  folds-below b cols s k l = keeps (λ x u. Below b u) cols (λ x. foldFrom x rows) s k (λ x u h t. some-fold-below b x (omega arith) u t)
+
 module _ (g : Shape) (rows : List ℕ) where
   pub move-same : (p : ℕ) (cols : List ℕ) → length (firstMove g rows p cols) ≡ length cols
   move-same p cols =
@@ -47,10 +64,6 @@ module _ (g : Shape) (rows : List ℕ) where
   unfolding firstMoves
   moves-same cols = each-same (firstMove g rows) move-same cols (length g)
 
-  fold-same : (x : ℕ) (cols : List ℕ) → length (foldFrom x rows cols) ≡ length cols
-  unfolding foldFrom
-  fold-same x cols = length-map cols (at (table x rows cols))
-
   pub average-same : (p : ℕ) (cols : List ℕ) → length (averageOne g rows p cols) ≡ length cols
   average-same p cols = length-set cols p _
 
@@ -58,23 +71,15 @@ module _ (g : Shape) (rows : List ℕ) where
   unfolding average
   round-same k cols =
       each-same (averageOne g rows) average-same (foldFrom 1 rows (foldFrom 0 rows cols)) (length g)
-      ∙ fold-same 1 (foldFrom 0 rows cols) ∙ fold-same 0 cols
+      ∙ fold-same rows 1 (foldFrom 0 rows cols) ∙ fold-same rows 0 cols
 
   -- columns below b stay so
-  fold0-below : (b : ℕ) (cols : List ℕ) → Below b cols → Below b (foldFrom 0 rows cols)
-  unfolding foldFrom
-  fold0-below b cols = fold-below b rows cols (table 0 rows cols) (table0-folds rows cols)
-
-  fold1-below : (b : ℕ) (cols : List ℕ) → Below b cols → Below b (foldFrom 1 rows cols)
-  unfolding foldFrom
-  fold1-below b cols = fold-below b rows cols (table 1 rows cols) (table1-folds rows cols)
-
   averages-below : (b : ℕ) (cols : List ℕ) → Below b cols → (k : ℕ) → Below b (each cols (averageOne g rows) k)
   averages-below b cols s k = keeps (λ p u. Below b u) cols (averageOne g rows) s k (λ p u h t. average-below b rows u t p (mean (columnsOf u (incidents g p))))
 
   round-below : (b : ℕ) (cols : List ℕ) → Below b cols → Below b (round g rows cols)
   unfolding average
-  round-below b cols s = averages-below b (foldFrom 1 rows (foldFrom 0 rows cols)) (fold1-below b (foldFrom 0 rows cols) (fold0-below b cols s)) (length g)
+  round-below b cols s = averages-below b (foldFrom 1 rows (foldFrom 0 rows cols)) (some-fold-below rows b 1 (omega arith) (foldFrom 0 rows cols) (some-fold-below rows b 0 (omega arith) cols s)) (length g)
 
 -- ---- n boxes
 module _ (n : ℕ) (rows : List ℕ) where
@@ -95,29 +100,26 @@ module _ (n : ℕ) (rows : List ℕ) where
     pub averaged-boxes : (g : Shape) (p : ℕ) (now : List ℕ) → take n now ≡ each C (averageOne g R) p → Boxes n rows now
     averaged-boxes g p now e = boxes-of (z .few) (z .row) now (rw e (averages-below g R 144 C (below-of cols z) p))
 
-    -- one fold, and two
-    module _ (once : List ℕ) (e : once ≡ foldFrom 0 R C ++ drop n cols) (g : Shape) where
-      once-take : take n once ≡ foldFrom 0 R C
-      once-take = ap (take n) e ∙ front-take n cols (foldFrom 0 R C) (fold-same g R 0 C)
+    -- k of the two folds of a round, and both
+    pub folded-boxes : (k : ℕ) → k ≤ 2 → (now : List ℕ) → take n now ≡ each C (λ x. foldFrom x R) k → Boxes n rows now
+    folded-boxes k l now e = boxes-of (z .few) (z .row) now (rw e (folds-below R 144 C (below-of cols z) k l))
 
-      once-drop : drop n once ≡ drop n cols
-      once-drop = ap (drop n) e ∙ front-drop n cols (foldFrom 0 R C) (fold-same g R 0 C)
+    module _ (twice : List ℕ) (e : twice ≡ foldFrom 1 R (foldFrom 0 R C) ++ drop n cols) where
+      both-same : length (foldFrom 1 R (foldFrom 0 R C)) ≡ length C
+      both-same = fold-same R 1 (foldFrom 0 R C) ∙ fold-same R 0 C
 
-      pub once-boxes : Boxes n rows once
-      once-boxes = boxes-of (z .few) (z .row) once (rw once-take (fold0-below g R 144 C (below-of cols z)))
+      twice-take : take n twice ≡ foldFrom 1 R (foldFrom 0 R C)
+      twice-take = ap (take n) e ∙ front-take n cols (foldFrom 1 R (foldFrom 0 R C)) both-same
 
-      module _ (twice : List ℕ) (f : twice ≡ foldFrom 1 R (take n once) ++ drop n once) where
-        twice-take : take n twice ≡ foldFrom 1 R (foldFrom 0 R C)
-        twice-take = ap (take n) f ∙ front-take n once (foldFrom 1 R (take n once)) (fold-same g R 1 (take n once)) ∙ ap (foldFrom 1 R) once-take
+      twice-drop : drop n twice ≡ drop n cols
+      twice-drop = ap (drop n) e ∙ front-drop n cols (foldFrom 1 R (foldFrom 0 R C)) both-same
 
-        twice-drop : drop n twice ≡ drop n cols
-        twice-drop = ap (drop n) f ∙ front-drop n once (foldFrom 1 R (take n once)) (fold-same g R 1 (take n once)) ∙ once-drop
+      pub twice-boxes : Boxes n rows twice
+      unfolding each
+      twice-boxes = folded-boxes 2 (omega arith) twice twice-take
 
-        pub twice-boxes : Boxes n rows twice
-        twice-boxes = boxes-of (z .few) (z .row) twice (rw twice-take (fold1-below g R 144 (foldFrom 0 R C) (fold0-below g R 144 C (below-of cols z))))
-
-        pub round-is : (r : List ℕ) → r ≡ average g R (take n twice) ++ drop n twice → r ≡ round g R C ++ drop n cols
-        round-is r h = h ∙ cc (ap (average g R) twice-take, twice-drop)
+      pub round-is : (g : Shape) (r : List ℕ) → r ≡ average g R (take n twice) ++ drop n twice → r ≡ round g R C ++ drop n cols
+      round-is g r h = h ∙ cc (ap (average g R) twice-take, twice-drop)
 
   -- from the first columns
   module _ (g : Shape) (many : length g ≡ n) (few : n ≤ 48) (inside : Inside n 48 rows) (first : List ℕ) (f : FirstColumns n (take n first)) where

@@ -3,14 +3,14 @@
 ghost use mathlib.Core.Path.{_≡_};
 ghost use mathlib.Core.Bool.{cond};
 ghost use mathlib.Core.List.{_++_, map};
-ghost use Prim.Native.Nat.{ℕ, suc, _<_, _≤_, _+_, _-_, _*_};
+ghost use Prim.Native.Nat.{ℕ, _<_, _≤_, _+_, _-_, _*_};
 ghost use lib.Dec.{eqb};
 ghost use lib.ListN.{length, take, drop};
 ghost use Rattle.grid.specs.Lists.{largest, smallest, orElse, total};
-ghost use Rattle.grid.specs.Columns.{at, taken, extra, foldFrom, leftEnd, rightOf, clamp, averageTo, target, firstMove, mean, columnsOf, incidents, firstMoves, average, round, columns};
+ghost use Rattle.grid.specs.Columns.{at, taken, foldFrom, leftEnd, rightOf, clamp, averageTo, target, firstMove, mean, columnsOf, incidents, firstMoves, average, round, columns};
 ghost use Rattle.grid.specs.code.Placed.{FirstColumns};
 ghost use Rattle.grid.specs.code.Leads.{part, shapeIn, Led};
-ghost use Rattle.grid.specs.code.Arrays.{Boxes, Inside, inColumn, tableTo};
+ghost use Rattle.grid.specs.code.Arrays.{Boxes, Inside, Used, wordOf, usedIn, extraIn, tableTo};
 
 // The largest of the first n.
 fn largest_of(xs: &[u8; 48], n: u32) -> u8
@@ -29,22 +29,38 @@ fn largest_of(xs: &[u8; 48], n: u32) -> u8
     most
 }
 
-// Which rows have a box in column x.
-fn in_column(rows: &[u8; 48], cols: &[u8; 48], n: u32, x: u8) -> [bool; 48]
+// The word of the table of used columns that has the bit of column x in row r. A row has 160 bits: the last pair may be columns 143 and 144.
+fn word_of(r: u32, x: u8) -> usize
+    requires { ⌜ (r < 48) × (x < 160) ⌝ }
+    ensures { λ w. ⌜ (w ≡ wordOf r x) × (w < 240) ⌝ }
+{
+    (5 * r + (x / 32) as u32) as usize
+}
+
+// Whether row r uses column x, by the table.
+fn is_used(used: &[u32; 240], r: u32, x: u8) -> bool
+    requires { ⌜ (r < 48) × (x < 160) ⌝ }
+    ensures { λ z. ⌜ z ≡ usedIn (now (used .entry)) r x ⌝ }
+{
+    (used[word_of(r, x)] >> (x % 32)) % 2 == 1
+}
+
+// The table of used columns: a column of a row is used exactly if a box of that row stands there.
+fn used_columns(rows: &[u8; 48], cols: &[u8; 48], n: u32) -> [u32; 240]
     requires { ⌜ Boxes n (now rows) (now cols) ⌝ }
-    ensures { λ r. ⌜ r ≡ inColumn (take n (now (rows .entry))) (take n (now (cols .entry))) x ⌝ }
+    ensures { λ used. ⌜ Used n (now (rows .entry)) (now (cols .entry)) used ⌝ }
 {
     let ys: &[u8] = rows;
     let xs: &[u8] = cols;
-    let mut found = [false; 48];
+    let mut used = [0u32; 240];
     let mut k = 0u32;
     while k < n {
-        if xs[k as usize] == x {
-            found[ys[k as usize] as usize] = true;
-        }
+        let x = xs[k as usize];
+        let i = word_of(ys[k as usize] as u32, x);
+        used[i] = used[i] | (1u32 << (x % 32));
         k += 1;
     }
-    found
+    used
 }
 
 fn one_if(b: bool) -> u8
@@ -53,32 +69,23 @@ fn one_if(b: bool) -> u8
     if b { 1 } else { 0 }
 }
 
-// The new column of each column, for so many pairs from start on. The search through the rows stops at the first collision.
-fn new_columns(
-    rows: &[u8; 48],
-    cols: &[u8; 48],
-    n: u32,
-    height: u32,
-    start: u8,
-    pairs: u8,
-) -> [u8; 146]
-    requires { ⌜ Boxes n (now rows) (now cols) ⌝ }
-    requires { ⌜ (height ≡ suc (largest (take n (now rows)))) × (height ≤ 48) × (start ≤ 1) × (pairs ≤ 72) ⌝ }
-    ensures { λ r. ⌜ take (start + 2 * pairs) r ≡ tableTo start pairs (extra (take n (now (rows .entry))) (take n (now (cols .entry)))) ⌝ }
+// The new column of each column, for so many pairs from start on. The search through the rows stops at the first collision,
+// which the used columns alone tell.
+fn new_columns(used: &[u32; 240], height: u32, start: u8, pairs: u8) -> [u8; 146]
+    requires { ⌜ (height ≤ 48) × (start ≤ 1) × (pairs ≤ 72) ⌝ }
+    ensures { λ r. ⌜ take (start + 2 * pairs) r ≡ tableTo start pairs (extraIn (now (used .entry)) height) ⌝ }
 {
     let mut table = [0u8; 146];
     let mut new = start;
     let mut p = 0u8;
     while p < pairs {
         let x = start + 2 * p;
-        let left = in_column(rows, cols, n, x);
-        let right = in_column(rows, cols, n, x + 1);
         let mut row = 0u32;
         let collision = loop {
             if height <= row {
                 break false;
             }
-            if left[row as usize] && right[row as usize] {
+            if is_used(used, row, x) && is_used(used, row, x + 1) {
                 break true;
             }
             row += 1;
@@ -106,7 +113,8 @@ fn rename(cols: &mut [u8; 48], n: u32, table: &[u8; 146])
     }
 }
 
-// A fold from start: columns in pairs, each pair into one new column, or two where a row has both taken.
+// A fold from start: columns in pairs, each pair into one new column, or two where a row has both taken. Which columns are used
+// is worked out first, as they stand when the fold begins.
 fn fold(rows: &[u8; 48], cols: &mut [u8; 48], n: u32, start: u8)
     requires { ⌜ Boxes n (now rows) (now cols) ⌝ }
     requires { ⌜ start ≤ 1 ⌝ }
@@ -115,8 +123,21 @@ fn fold(rows: &[u8; 48], cols: &mut [u8; 48], n: u32, start: u8)
     let height = largest_of(rows, n) as u32 + 1;
     let last = largest_of(cols, n);
     let pairs = (last + 2 - start) / 2;
-    let table = new_columns(rows, cols, n, height, start, pairs);
+    let used = used_columns(rows, cols, n);
+    let table = new_columns(&used, height, start, pairs);
     rename(cols, n, &table);
+}
+
+// The two folds of a round, from 0 and from 1. `fold` is called in one place, so that its tables share the caller's frame.
+fn folds(rows: &[u8; 48], cols: &mut [u8; 48], n: u32)
+    requires { ⌜ Boxes n (now rows) (now cols) ⌝ }
+    ensures { λ _. ⌜ now (cols .exit) ≡ foldFrom 1 (take n (now (rows .entry))) (foldFrom 0 (take n (now (rows .entry))) (take n (now (cols .entry)))) ++ drop n (now (cols .entry)) ⌝ }
+{
+    let mut start = 0u8;
+    while start < 2 {
+        fold(rows, cols, n, start);
+        start += 1;
+    }
 }
 
 // The first place after the left neighbour of a box, or 0, and the column of its right neighbour, or 255.
@@ -362,8 +383,7 @@ fn round(to: &[u8; 176], bounds: &[u8; 97], rows: &[u8; 48], cols: &mut [u8; 48]
     requires { ⌜ Boxes n (now rows) (now cols) ⌝ }
     ensures { λ _. ⌜ now (cols .exit) ≡ round (shapeIn n (now (to .entry)) (now (bounds .entry))) (take n (now (rows .entry))) (take n (now (cols .entry))) ++ drop n (now (cols .entry)) ⌝ }
 {
-    fold(rows, cols, n, 0);
-    fold(rows, cols, n, 1);
+    folds(rows, cols, n);
     average_all(to, bounds, rows, cols, n);
 }
 

@@ -1,6 +1,6 @@
 -- `columns::fold`: the table covers every column that is used.
 -- Assumes nothing.
-use Prim.Native.Nat.{ℕ, _<_, _-_, _+_, _/_}
+use Prim.Native.Nat.{ℕ, suc, _≤_, _<_, _-_, _+_, _/_}
 use native.Mathlib.Omega.{arith}
 use mathlib.Core.Path.{_≡_, ap, _∙_}
 use mathlib.Core.List.{List, _++_}
@@ -8,6 +8,7 @@ use lib.ListN.{take, drop}
 use Rattle.grid.specs.Lists.{largest}
 use Rattle.grid.specs.Columns.{pairsFrom}
 use Rattle.grid.proofs.FoldLaws.{fold-is, first-below}
+use Rattle.grid.proofs.UsedLaws.{table-same}
 use borrow.Author.Needs.{needs}
 use Rattle.grid.proofs.columns.fold.Statement.{statement}
 use Rattle.grid.proofs.columns.fold.Tie as tie
@@ -37,31 +38,46 @@ add-pairs c = let h = last-column (c .before .before .before) in let e = c .larg
 sub-pairs : tie.Need-sub-pairs
 sub-pairs c = search needs
 
+used-columns-requires : tie.Need-used-columns-requires
+used-columns-requires c κs = search needs
+
+-- the number of rows, and how far the pairs run
+sizes : (z : tie.After-largest-of2) →
+    let a = z .before .before .before .args in
+    let h = z .before .before .largest-of .result + 1 in
+    (h ≡ suc (largest (take (a .n) (a .rows .now)))) × (h ≤ 48) × ((z .largest-of2 .result + 2 - a .start) / 2 ≤ 72)
+sizes z =
+    let h = last-row (z .before .before .before) in
+    let k = last-column (z .before .before .before) in
+    let e = z .before .before .largest-of .ensures in
+    let f = z .largest-of2 .ensures in
+    (omega arith, omega arith, omega arith)
+
 new-columns-requires : tie.Need-new-columns-requires
 new-columns-requires c κs =
-    let z = c .before .before .before .before in
-    let h = last-row z in
-    let k = last-column z in
-    let e = c .before .before .before .largest-of .ensures in
-    let f = c .before .largest-of2 .ensures in
-    (z .pre .0, (omega arith, omega arith, z .pre .1, omega arith))
+    let z = c .before .before .before in
+    (sizes z .1, z .before .before .before .pre .1, sizes z .2)
 
 rename-requires : tie.Need-rename-requires
 rename-requires c κs =
-    let b = c .before .before .before .before .before .before .before .pre .0 in
+    let b = c .before .before .before .before .before .before .before .before .before .pre .0 in
     (b .few, record { below = λ k h. omega (arith, b .column k h) })
 
 returns : tie.Need-returns
 returns c =
-    let z = c .before .before .before .before .before .before .before .before in
+    let t = c .before .before .before in
+    let u = t .before .before in
+    let last = u .before .before in
+    let z = last .before .before .before in
     let a = z .args in
-    let t = c .before .before .before .new-columns in
-    let last = c .before .before .before .before .before .largest-of2 in
     let R = take (a .n) (a .rows .now) in
     let C = take (a .n) (a .cols .now) in
-    let e : (last .result + 2 - a .start) / 2 ≡ pairsFrom (a .start) C = ap (λ (m : ℕ). (m + 2 - a .start) / 2) (last .ensures) in
+    let pairs = (last .largest-of2 .result + 2 - a .start) / 2 in
+    let e : pairs ≡ pairsFrom (a .start) C = ap (λ (m : ℕ). (m + 2 - a .start) / 2) (last .largest-of2 .ensures) in
+    let s = sizes last in
+    let same = table-same (a .n) (a .rows .now) (a .cols .now) (u .used-columns .result) (u .used-columns .ensures .tells) (last .before .before .largest-of .result + 1) (a .start) pairs (s .0) (s .1) (omega (arith, z .pre .1, s .2)) in
     c .rename .ensures
-    ∙ ap (λ (l : List ℕ). l ++ drop (a .n) (a .cols .now)) (fold-is R C (a .start) ((last .result + 2 - a .start) / 2) (t .result) (z .pre .1) e (t .ensures))
+    ∙ ap (λ (l : List ℕ). l ++ drop (a .n) (a .cols .now)) (fold-is R C (a .start) pairs (t .new-columns .result) (z .pre .1) e (t .new-columns .ensures ∙ same))
 
 pub fold-spec : {M : Type 1} → statement M
 fold-spec =
@@ -73,6 +89,7 @@ fold-spec =
     largest-of-requires-2
     add-pairs
     sub-pairs
+    used-columns-requires
     new-columns-requires
     rename-requires
     returns)
