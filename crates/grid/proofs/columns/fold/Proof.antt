@@ -13,6 +13,9 @@ use borrow.Author.Needs.{needs}
 use Rattle.grid.proofs.columns.fold.Statement.{statement}
 use Rattle.grid.proofs.columns.fold.Tie as tie
 
+abbrev begun : tie.After-largest-of2 → tie.Start
+begun z = z .before .before .before
+
 -- the last row and the last column
 last-row : (z : tie.Start) → largest (take (z .args .n) (z .args .rows .now)) < 48
 last-row z = first-below (z .args .rows .now) (z .args .n) 48 (omega arith) (z .pre .0 .row)
@@ -33,7 +36,7 @@ largest-of-requires-2 : tie.Need-largest-of-requires-2
 largest-of-requires-2 c κs = search needs
 
 add-pairs : tie.Need-add-pairs
-add-pairs c = let h = last-column (c .before .before .before) in let e = c .largest-of2 .ensures in search needs
+add-pairs c = let h = last-column (begun c) in let e = c .largest-of2 .ensures in search needs
 
 sub-pairs : tie.Need-sub-pairs
 sub-pairs c = search needs
@@ -43,12 +46,12 @@ used-columns-requires c κs = search needs
 
 -- the number of rows, and how far the pairs run
 sizes : (z : tie.After-largest-of2) →
-    let a = z .before .before .before .args in
+    let a = begun z .args in
     let h = z .before .before .largest-of .result + 1 in
     (h ≡ suc (largest (take (a .n) (a .rows .now)))) × (h ≤ 48) × ((z .largest-of2 .result + 2 - a .start) / 2 ≤ 72)
 sizes z =
-    let h = last-row (z .before .before .before) in
-    let k = last-column (z .before .before .before) in
+    let h = last-row (begun z) in
+    let k = last-column (begun z) in
     let e = z .before .before .largest-of .ensures in
     let f = z .largest-of2 .ensures in
     (omega arith, omega arith, omega arith)
@@ -56,11 +59,12 @@ sizes z =
 new-columns-requires : tie.Need-new-columns-requires
 new-columns-requires c κs =
     let z = c .before .before .before in
-    (sizes z .1, z .before .before .before .pre .1, sizes z .2)
+    (sizes z .1, begun z .pre .1, sizes z .2)
 
 rename-requires : tie.Need-rename-requires
 rename-requires c κs =
-    let b = c .before .before .before .before .before .before .before .before .before .pre .0 in
+    let u = c .before .before .before .before in
+    let b = begun (u .before .before) .pre .0 in
     (b .few, record { below = λ k h. omega (arith, b .column k h) })
 
 returns : tie.Need-returns
@@ -68,7 +72,7 @@ returns c =
     let t = c .before .before .before in
     let u = t .before .before in
     let last = u .before .before in
-    let z = last .before .before .before in
+    let z = begun last in
     let a = z .args in
     let R = take (a .n) (a .rows .now) in
     let C = take (a .n) (a .cols .now) in
