@@ -1,6 +1,6 @@
 -- `columns::new_columns`: the inner loop has passed rows without a collision, and what it yields is `collided`; each turn of the outer loop adds one pair to the table.
 -- Assumes nothing.
-use Prim.Native.Nat.{_≤_, _-_, _+_, _*_}
+use Prim.Native.Nat.{ℕ, _≤_, _-_, _+_, _*_}
 use native.Mathlib.Omega.{arith}
 use mathlib.Core.Path.{_≡_, refl, ap, sym, _∙_}
 use mathlib.Core.Logic.{⊎-elim}
@@ -58,31 +58,35 @@ loop2-less c = search needs
 
 loop2-again : tie.Need-loop2-again Inv-loop2 μ-loop2 Inv-loop μ-loop
 loop2-again c =
-    let u = c .before .before .before .before .before .before .args .used .now in
-    let x = c .before .before .before .before .before .before .args .start + 2 * c .before .before .before .before .before .loop .p in
-    let r = c .before .before .before .loop2 .row in
-    let clear = c .before .before .before .loop2 .inv .1 in
+    let i = c .before .before .before in
+    let t = i .before .before in
+    let u = t .before .args .used .now in
+    let x = t .before .args .start + 2 * t .loop .p in
+    let r = i .loop2 .row in
+    let clear = i .loop2 .inv .1 in
     ⊎-elim (λ w. (search needs, next-in u x r clear (rw (sym (w .1 .ensures) ∙ w .2 .left) (and-false (usedIn u r x)))))
     (λ w. (search needs, next-in u x r clear (rw (sym (c .before .is-used .ensures) ∙ w .left))))
     (c .if2 .came)
 
+-- the arguments, and the first column of the turn's pair
+abbrev begun : tie.Joined1 Inv-loop2 μ-loop2 Inv-loop μ-loop → tie.Start Inv-loop2 μ-loop2 Inv-loop μ-loop
+begun c = c .before .before .before .before
+
+abbrev pair : tie.Joined1 Inv-loop2 μ-loop2 Inv-loop μ-loop → ℕ
+pair c = begun c .args .start + 2 * c .before .before .before .loop .p
+
 -- what the inner loop yields: by its test at the last row, or by the first row that uses both columns
-collided : (c : tie.Joined1 Inv-loop2 μ-loop2 Inv-loop μ-loop) →
-    let z = c .before .before .before .before in
-    c .if1 .collision ≡ collisionIn (z .args .used .now) (z .args .start + 2 * c .before .before .before .loop .p) (z .args .height)
+collided : (c : tie.Joined1 Inv-loop2 μ-loop2 Inv-loop μ-loop) → c .if1 .collision ≡ collisionIn (begun c .args .used .now) (pair c) (begun c .args .height)
 collided c =
-    let z = c .before .before .before .before in
-    let u = z .args .used .now in
-    let x = z .args .start + 2 * c .before .before .before .loop .p in
+    let a = begun c .args in
+    let u = a .used .now in
     let r = c .before .loop2 .row in
     ⊎-elim
-    (λ w. let e : r ≡ z .args .height = omega arith in w .1 ∙ sym (c .before .loop2 .inv .1) ∙ ap (collisionIn u x) e)
-    (λ w. w .5 ∙ sym (found-in u x r (z .args .height) (w .0 .left) (rw (sym (w .1 .ensures) ∙ w .2 .taken, sym (w .3 .ensures) ∙ w .4 .taken))))
+    (λ w. let e : r ≡ a .height = omega arith in w .1 ∙ sym (c .before .loop2 .inv .1) ∙ ap (collisionIn u (pair c)) e)
+    (λ w. w .5 ∙ sym (found-in u (pair c) r (a .height) (w .0 .left) (rw (sym (w .1 .ensures) ∙ w .2 .taken, sym (w .3 .ensures) ∙ w .4 .taken))))
     (c .if1 .came)
 
-more-is : (c : tie.After-one-if Inv-loop2 μ-loop2 Inv-loop μ-loop) →
-    let z = c .before .before .before .before .before in
-    c .one-if .result ≡ extraIn (z .args .used .now) (z .args .height) (z .args .start + 2 * c .before .before .before .before .loop .p)
+more-is : (c : tie.After-one-if Inv-loop2 μ-loop2 Inv-loop μ-loop) → c .one-if .result ≡ extraIn (begun (c .before) .args .used .now) (begun (c .before) .args .height) (pair (c .before))
 more-is c = c .one-if .ensures ∙ ap (λ (b : Bool). cond b 1 0) (collided (c .before))
 
 -- the collision is one column more, or none
@@ -121,13 +125,13 @@ loop-less c = search needs
 
 loop-again : tie.Need-loop-again Inv-loop2 μ-loop2 Inv-loop μ-loop
 loop-again c =
-    let z = c .before .before .before .before .before in
+    let z = begun (c .before) in
     let l = c .before .before .before .before .loop in
     let more = extraIn (z .args .used .now) (z .args .height) in
     let m = c .one-if .result in
     let h = few c in
     let k = l .inv .4 in
-    let x = z .args .start + 2 * l .p in (
+    let x = pair (c .before) in (
       omega arith,
       omega arith,
       next-next more (z .args .start) (l .p) (l .new) m (l .inv .2) (more-is c),
