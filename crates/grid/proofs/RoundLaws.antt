@@ -78,8 +78,8 @@ module _ (g : Shape) (rows : List ℕ) where
   averages-below b cols s k = keeps (λ p u. Below b u) cols (averageOne g rows) s k (λ p u h t. average-below b rows u t p (mean (columnsOf u (incidents g p))))
 
   round-below : (b : ℕ) (cols : List ℕ) → Below b cols → Below b (round g rows cols)
-  unfolding average
-  round-below b cols s = averages-below b (foldFrom 1 rows (foldFrom 0 rows cols)) (some-fold-below rows b 1 (omega arith) (foldFrom 0 rows cols) (some-fold-below rows b 0 (omega arith) cols s)) (length g)
+  unfolding average each
+  round-below b cols s = averages-below b (foldFrom 1 rows (foldFrom 0 rows cols)) (folds-below rows b cols s 2 (omega arith)) (length g)
 
 -- ---- n boxes
 module _ (n : ℕ) (rows : List ℕ) where
