@@ -99,8 +99,10 @@ module _ (rows cols used : List ℕ) (k : ℕ) (hr : k < length rows) (hc : k < 
       stored-other used (at rows k) (at cols k) long hy hx r x l (λ q. o (q .0)) ∙ u r x h l
       ∙ sym (rw (ne-eqb (at rows k) r o) (or-false (taken (take k rows) (take k cols) r x)))
 
-  pub used-more : Tells (k + 1) rows cols after
-  used-more r x h l = rw (add-one k, taken-more rows cols k r x hr hc) (used-next r x h l (same? (at rows k) r) (same? (at cols k) x))
+  -- by the code's numbers: the word's place, and the bit
+  pub used-more : {i v : ℕ} → i ≡ wordOf (at rows k) (at cols k) → v ≡ 2 ^ (at cols k % 32) → Tells (k + 1) rows cols (set used i (bitOr (at used i) v))
+  used-more {i} {v} e f r x h l =
+      rw (e, f, add-one k, taken-more rows cols k r x hr hc) (used-next r x h l (same? (at rows k) r) (same? (at cols k) x))
 
 -- ---- exactly if a box of that row stands there
 -- a place that is taken has a box
@@ -128,12 +130,16 @@ used-all n rows cols used hr hc u = record { exactly = λ r x h l. (stands r x h
         (b .0, i, sym (getD-take n rows (b .0) 0 i) ∙ b .2, sym (getD-take n cols (b .0) 0 i) ∙ b .3)
 
 -- ---- the pair of columns x and x + 1
--- one row more without a collision, and a row with one
-pub next-in : (used : List ℕ) (x r : ℕ) → collisionIn used x r ≡ false → (usedIn used r x && usedIn used r (x + 1)) ≡ false → collisionIn used x (r + 1) ≡ false
-next-in used x r h k = rw (add-one r, h, k)
+-- one row more, which does not use the first or not the second; and a row that uses both
+module _ (used : List ℕ) (x r : ℕ) where
+  pub not-first : collisionIn used x r ≡ false → usedIn used r x ≡ false → collisionIn used x (r + 1) ≡ false
+  not-first h k = rw (add-one r, h, k)
 
-pub found-in : (used : List ℕ) (x r h : ℕ) → r < h → (usedIn used r x && usedIn used r (x + 1)) ≡ true → collisionIn used x h ≡ true
-found-in used x r h = some-below (collisionIn used x) (λ q. usedIn used q x && usedIn used q (x + 1)) (λ q. refl) r h
+  pub not-second : collisionIn used x r ≡ false → usedIn used r (x + 1) ≡ false → collisionIn used x (r + 1) ≡ false
+  not-second h k = rw (add-one r, h, k) (and-false (usedIn used r x))
+
+  pub found-in : (h : ℕ) → r < h → usedIn used r x ≡ true → usedIn used r (x + 1) ≡ true → collisionIn used x h ≡ true
+  found-in h l a b = some-below (collisionIn used x) (λ q. usedIn used q x && usedIn used q (x + 1)) (λ q. refl) r h l (rw (a, b))
 
 -- pairs that become as many columns by f as by g
 new-same : (f g : ℕ → ℕ) (k x new : ℕ) → ((i : ℕ) → i < x + 2 * k → f i ≡ g i) → newColumns f k x new ≡ newColumns g k x new

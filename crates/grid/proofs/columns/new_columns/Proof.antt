@@ -6,11 +6,10 @@ use mathlib.Core.Path.{_≡_, refl, ap, sym, _∙_}
 use mathlib.Core.Logic.{⊎-elim}
 use mathlib.Core.Bool.{Bool, false, cond}
 use lib.ListN.{length, take, set, length-set}
-use Rattle.grid.specs.code.Arrays.{usedIn, collisionIn, extraIn, tableTo, nextNew}
-use Rattle.laws.proofs.Tests.{and-false}
+use Rattle.grid.specs.code.Arrays.{collisionIn, extraIn, tableTo, nextNew}
 use Rattle.grid.proofs.ColumnLaws.{extra-le}
 use Rattle.grid.proofs.FoldLaws.{table-more, next-next, table-none}
-use Rattle.grid.proofs.UsedLaws.{found-in, next-in}
+use Rattle.grid.proofs.UsedLaws.{not-first, not-second, found-in}
 use borrow.Author.Needs.{needs}
 use Rattle.grid.proofs.columns.new_columns.Statement.{statement}
 use Rattle.grid.proofs.columns.new_columns.Tie as tie
@@ -64,8 +63,8 @@ loop2-again c =
     let x = t .before .args .start + 2 * t .loop .p in
     let r = i .loop2 .row in
     let clear = i .loop2 .inv .1 in
-    ⊎-elim (λ w. (search needs, next-in u x r clear (rw (sym (w .1 .ensures) ∙ w .2 .left) (and-false (usedIn u r x)))))
-    (λ w. (search needs, next-in u x r clear (rw (sym (c .before .is-used .ensures) ∙ w .left))))
+    ⊎-elim (λ w. (search needs, not-second u x r clear (sym (w .1 .ensures) ∙ w .2 .left)))
+    (λ w. (search needs, not-first u x r clear (sym (c .before .is-used .ensures) ∙ w .left)))
     (c .if2 .came)
 
 -- the arguments, and the first column of the turn's pair
@@ -83,7 +82,7 @@ collided c =
     let r = c .before .loop2 .row in
     ⊎-elim
     (λ w. let e : r ≡ a .height = omega arith in w .1 ∙ sym (c .before .loop2 .inv .1) ∙ ap (collisionIn u (pair c)) e)
-    (λ w. w .5 ∙ sym (found-in u (pair c) r (a .height) (w .0 .left) (rw (sym (w .1 .ensures) ∙ w .2 .taken, sym (w .3 .ensures) ∙ w .4 .taken))))
+    (λ w. w .5 ∙ sym (found-in u (pair c) r (a .height) (w .0 .left) (sym (w .1 .ensures) ∙ w .2 .taken) (sym (w .3 .ensures) ∙ w .4 .taken)))
     (c .if1 .came)
 
 more-is : (c : tie.After-one-if Inv-loop2 μ-loop2 Inv-loop μ-loop) → c .one-if .result ≡ extraIn (begun (c .before) .args .used .now) (begun (c .before) .args .height) (pair (c .before))

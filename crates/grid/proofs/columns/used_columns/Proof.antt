@@ -87,7 +87,8 @@ loop-again c =
     let h = z .pre .few in
     let hr : l .k < length (a .rows .now) = omega (arith, rows-long (i .before .before)) in
     let hc : l .k < length (a .cols .now) = omega (arith, cols-long (i .before .before)) in
-    (omega arith, rw length-set (l .inv .1), rw (bit-at (at (a .cols .now) (l .k) % 32) (omega arith), c .word-of .ensures .0) (used-more (a .rows .now) (a .cols .now) (l .used) (l .k) hr hc (l .inv .1) (row i) (omega arith) (l .inv .2)))
+    let bit = bit-at (at (a .cols .now) (l .k) % 32) (omega arith) in
+    (omega arith, rw length-set (l .inv .1), used-more (a .rows .now) (a .cols .now) (l .used) (l .k) hr hc (l .inv .1) (row i) (omega arith) (l .inv .2) (c .word-of .ensures .0) bit)
 
 returns : tie.Need-returns Inv-loop μ-loop
 returns c =
