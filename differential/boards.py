@@ -1,5 +1,5 @@
 #!/usr/bin/env python3
-"""What each chart is read as, from document 01's module 1 and refusals 1 to 12 alone: charts in hexadecimal, one on
+"""What each chart is read as, from document 01's module 1, refusals 1 to 12 and document 02's L4 alone: charts in hexadecimal, one on
 each line of standard input; boards or refusals on standard output, in the form of the program `boards`.
 
 Made `crates/boards/stdout` from `crates/boards/stdin`. It shares no code with the other readers. signals.py reads by it too.
@@ -21,10 +21,20 @@ def read(chart):
         length = byte(at)
         if length > 24:
             raise Refused(8, 0)
+        characters, awaited = 0, False
         for place in range(at + 1, at + 1 + length):
-            if not 32 <= byte(place) <= 126:
+            value, last = byte(place), place == at + length
+            if awaited:
+                if value != 0xB0:
+                    raise Refused(9, 0)
+                awaited = False
+            elif value == 0xC2 and not last:
+                characters, awaited = characters + 1, True
+            elif 32 <= value <= 126:
+                characters += 1
+            else:
                 raise Refused(9, 0)
-        return (at + 1, length), at + 1 + length
+        return (at + 1, characters), at + 1 + length
 
     def end(at):
         target = byte(at)

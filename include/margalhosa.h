@@ -9,6 +9,9 @@
    A chart of length 0, as a board with nothing fitted sends it, is the empty sheet: every function answers for it as
    for the chart 01 00. So a board that could not be read must not be handed over as one that sent nothing.
 
+   A text of a chart is bytes 32 to 126 and degree signs, the byte pair C2 B0 (UTF-8). Widths count characters, so a
+   sign counts as one; a chart's length bytes and the lengths below count bytes.
+
    The caller owes: a pointer is not null, also where the length is 0, and its bytes are there; a buffer that is
    lent for writing overlaps no other argument. Everything else is judged, a sheet that the caller made too. */
 #ifndef MARGALHOSA_H
@@ -88,7 +91,8 @@ typedef struct {
     uint32_t x, y, size, width;
 } margalhosa_label_result;
 
-/* A label's text: the `len` bytes from `at` on, of the table if `fixed` is 1, of the chart if it is 0; refused, all 0. */
+/* A label's text: the `len` bytes from `at` on, of the table if `fixed` is 1, of the chart if it is 0; they lie within
+   it. Refused, all 0. */
 typedef struct {
     uint32_t refused, second;
     uint32_t fixed, at, len;

@@ -13,7 +13,7 @@ use triple_arena_render::{
 ptr_struct!(Node());
 
 fn text(bytes: &[u8]) -> String {
-    String::from_utf8(bytes.to_vec()).expect("text bytes are 32 to 126")
+    String::from_utf8(bytes.to_vec()).expect("text bytes are 32 to 126, and 1 for a sign")
 }
 
 /// The arena of these bodies.
@@ -128,6 +128,7 @@ fn labels(boxes: &[Placed]) -> String {
     let mut out = String::new();
     for (k, (_, _, node)) in boxes.iter().enumerate() {
         for (i, ((x, y), size, width, s)) in node.text.iter().enumerate() {
+            let s = s.replace(char::from(chart::SIGN), "°");
             out += &format!("text {k} {i} {x} {y} {size} {width} {s}\n");
         }
     }

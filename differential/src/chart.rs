@@ -1,5 +1,6 @@
-//! Charts as document 01 words them (module 1): reader with refusals 1 to 11,
-//! writer, short form, hexadecimal, and what the programs share.
+//! Charts as document 01 words them (module 1), with the degree signs of document
+//! 02: reader with refusals 1 to 11, writer, short form, hexadecimal, and what the
+//! programs share.
 
 use std::io::{BufRead, Read};
 
@@ -12,6 +13,10 @@ pub const MAX_LENGTH: usize = 24;
 pub const LISTING_BYTES: usize = 8192;
 /// Neither origin plus width nor origin plus height exceeds it.
 pub const MAX_POSITION: u64 = 8_388_608;
+
+/// A degree sign in a text that was read: one letter, as the Rust is handed it,
+/// and no text byte. In a chart it is C2 B0, and so it is printed.
+pub const SIGN: u8 = 1;
 
 /// A source or a sink as given.
 #[derive(Clone, Debug, PartialEq)]
@@ -58,12 +63,21 @@ impl Reader<'_> {
             return Err(Refusal(8, 0));
         }
         let mut text = vec![];
-        for _ in 0..length {
+        let mut left = length;
+        while left > 0 {
             let byte = self.byte()?;
-            if !(32..=126).contains(&byte) {
+            left -= 1;
+            if byte == 0xc2 && left > 0 {
+                if self.byte()? != 0xb0 {
+                    return Err(Refusal(9, 0));
+                }
+                left -= 1;
+                text.push(SIGN);
+            } else if (32..=126).contains(&byte) {
+                text.push(byte);
+            } else {
                 return Err(Refusal(9, 0));
             }
-            text.push(byte);
         }
         Ok(text)
     }
@@ -147,6 +161,7 @@ pub fn write(bodies: &[Body]) -> Vec<u8> {
     let mut rest = vec![];
     let start = 2 + 2 * bodies.len();
     let text = |rest: &mut Vec<u8>, text: &[u8]| {
+        let text = bytes(text);
         rest.push(text.len() as u8);
         rest.extend(text);
     };
@@ -173,9 +188,15 @@ pub fn write(bodies: &[Body]) -> Vec<u8> {
     chart
 }
 
+/// A text's bytes in a chart.
+pub fn bytes(text: &[u8]) -> Vec<u8> {
+    let two = |&letter: &u8| if letter == SIGN { vec![0xc2, 0xb0] } else { vec![letter] };
+    text.iter().flat_map(two).collect()
+}
+
 /// As `0: snk[0, 0]; 1: src[0 "text"] lin["line"]`.
 pub fn short(bodies: &[Body]) -> String {
-    let quoted = |text: &[u8]| format!("\"{}\"", String::from_utf8_lossy(text));
+    let quoted = |text: &[u8]| format!("\"{}\"", String::from_utf8_lossy(&self::bytes(text)));
     let ends = |ends: &[End]| {
         let one = |end: &End| {
             if end.text.is_empty() {

@@ -13,7 +13,7 @@ const USAGE: &str = "compare [options] PROGRAM [ARGUMENT ..]
   --seed S     seed of the generated charts (1)
   --count N    how many (1000)
   --from I     first index (0)
-  --kind K     sound, damaged or mixed (mixed)
+  --kind K     sound, damaged, signs (degree signs) or mixed (mixed)
   --no-small   without the graphs of up to 3 nodes and 4 edges
   --list FILE  also the charts of a file of hex lines (may be repeated)
   --batch      the program reads hex lines and ends each listing by an empty line;
@@ -268,6 +268,7 @@ fn main() {
                 let chosen = match word().as_str() {
                     "sound" => Some(Kind::Sound),
                     "damaged" => Some(Kind::Damaged),
+                    "signs" => Some(Kind::Signs),
                     "mixed" => Some(Kind::Mixed),
                     _ => None,
                 };

@@ -4,7 +4,7 @@ use std::io::Write;
 
 use generate::Kind;
 
-const USAGE: &str = "gen [--seed S] [--count N] [--from I] [--kind sound|damaged|mixed] [--small]
+const USAGE: &str = "gen [--seed S] [--count N] [--from I] [--kind sound|damaged|signs|mixed] [--small]
   --small  all graphs of up to 3 nodes and 4 edges given as sinks instead";
 
 fn main() {
@@ -22,6 +22,7 @@ fn main() {
                 let chosen = match word().as_str() {
                     "sound" => Some(Kind::Sound),
                     "damaged" => Some(Kind::Damaged),
+                    "signs" => Some(Kind::Signs),
                     "mixed" => Some(Kind::Mixed),
                     _ => None,
                 };

@@ -1,6 +1,6 @@
 //! Charts from a seed. Chart i of a seed is the same whatever the count is.
 
-use chart::{Body, End, MAX_EDGES, MAX_LENGTH, MAX_LINES, MAX_NODES};
+use chart::{Body, End, MAX_EDGES, MAX_LENGTH, MAX_LINES, MAX_NODES, SIGN};
 
 /// SplitMix64.
 pub struct Random(u64);
@@ -459,11 +459,63 @@ pub fn damaged(r: &mut Random) -> Vec<u8> {
     chart
 }
 
+/// Some letters of the texts become degree signs, of 24 bytes at most.
+fn put_signs(r: &mut Random, bodies: &mut [Body]) {
+    for body in bodies {
+        let ends = body.sinks.iter_mut().chain(body.sources.iter_mut());
+        for text in ends.map(|end| &mut end.text).chain(body.lines.iter_mut()) {
+            for i in 0..text.len() {
+                if r.chance(4) {
+                    text[i] = SIGN;
+                }
+            }
+            while chart::bytes(text).len() > MAX_LENGTH {
+                text.pop();
+            }
+        }
+    }
+}
+
+/// Damage to one byte of a degree sign, if there is any.
+fn damage_signs(r: &mut Random, chart: &mut Vec<u8>) {
+    let places: Vec<_> = (0..chart.len())
+        .filter(|&i| [0xc2, 0xb0].contains(&chart[i]))
+        .collect();
+    if places.is_empty() {
+        return;
+    }
+    let i = places[r.below(places.len())];
+    match r.below(4) {
+        0 => chart.truncate(i + r.below(2)),
+        1 => chart[i] = [0xc2, 0xb0, 0xc3, 0xb1, b'x'][r.below(5)],
+        // a letter becomes half a sign
+        2 if i > 0 => chart[i - 1] = [0xc2, 0xb0][r.below(2)],
+        _ => {
+            chart.remove(i);
+        }
+    }
+}
+
+/// A chart with degree signs; one in three is damaged.
+fn signed(r: &mut Random) -> Vec<u8> {
+    let mut bodies = sound(r);
+    put_signs(r, &mut bodies);
+    let mut chart = chart::write(&bodies);
+    match r.below(9) {
+        0 | 1 => damage_signs(r, &mut chart),
+        2 => damage_bytes(r, &mut chart),
+        _ => {}
+    }
+    chart
+}
+
 /// Which charts are wanted.
 #[derive(Clone, Copy, PartialEq)]
 pub enum Kind {
     Sound,
     Damaged,
+    /// With degree signs.
+    Signs,
     /// One in six damaged.
     Mixed,
 }
@@ -474,6 +526,7 @@ pub fn generated(seed: u64, index: u64, kind: Kind) -> Vec<u8> {
     let broken = match kind {
         Kind::Sound => false,
         Kind::Damaged => true,
+        Kind::Signs => return signed(&mut r),
         Kind::Mixed => r.chance(6),
     };
     if broken {

@@ -620,7 +620,7 @@ fn sheet(layout: &Layout, asked: Asked) -> Result<String, Refusal> {
         for (k, one) in sized.iter().enumerate() {
             for (i, (lx, ly, size, width, text)) in one.labels.iter().enumerate() {
                 let (x, y) = point(k, (*lx, *ly));
-                let text = String::from_utf8_lossy(text);
+                let text = String::from_utf8_lossy(text).replace(char::from(chart::SIGN), "°");
                 out += &format!("text {k} {i} {x} {y} {size} {width} {text}\n");
             }
         }

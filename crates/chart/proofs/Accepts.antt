@@ -27,7 +27,7 @@ use Rattle.chart.specs.Accepted.{Fitting, Aimed, Formed, Accepted}
 use Rattle.chart.specs.Read.{numbersOf, outcomeOf, IsRead}
 use Rattle.chart.specs.code.Reads.{closedOf, readingOf, readOf, Joins, Sound, Reads, answered, judgedOf}
 use Rattle.chart.proofs.Readers.{number-some}
-use Rattle.chart.proofs.Gives.{Gives, EndFits, Shaped, Bodies, bodies-give}
+use Rattle.chart.proofs.Gives.{Gives, EndFits, Shaped, Bodies, ending-from, bodies-give}
 use Rattle.chart.proofs.Held.{LowNode, tables-are, board-held, ends-count, lines-count, table-back, lines-back, tables-held}
 
 -- ---- the targets
@@ -119,13 +119,13 @@ accepted s ps e = go (ltb (length s) 2) (eqb (getD s 0 0) 1) (leb (getD s 1 0) 3
 -- ---- the tables of an accepted chart
 module _ (s : List ℕ) (size : length s ≤ 5026) where
   end-low : (e : End) → EndFits s e → e .text .at < 65536
-  end-low e h = omega (arith, h .inside)
+  end-low e h = omega (arith, h .inside, ending-from (e .text .len) s (e .text .at))
 
   shaped-low : (p : Node) → Shaped s p → LowNode p
   shaped-low p h =
       record {
         sources = all-map end-low (p .sources) (h .sources);
-        lines = all-map (λ t f. omega (arith, f .inside)) (p .lines) (h .lines);
+        lines = all-map (λ t f. omega (arith, f .inside, ending-from (t .len) s (t .at))) (p .lines) (h .lines);
         sinks = all-map end-low (p .sinks) (h .sinks);
       }
 

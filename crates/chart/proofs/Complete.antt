@@ -6,16 +6,18 @@ use native.Mathlib.Numerals.{add-one}
 use native.Mathlib.Nat.{div-add-mod', mod-lt}
 use mathlib.Core.Path.{_≡_, refl, ap, sym, _∙_}
 use mathlib.Core.Option.{Option, none, some}
-use mathlib.Core.Bool.{Bool, true, false, cond, _&&_}
+use mathlib.Core.Bool.{true}
 use mathlib.Core.List.{List, [], _∷_, _++_, append-assoc, append-nil}
 use lib.Dec.{eqb, leb, ltb}
 use lib.ListN.{length, getD, drop, length-append}
 use lib.Seq.{drop-append-seam}
-use borrow.Author.Tests.{lt-ltb, le-ltb, le-leb, lt-leb, eq-eqb, leb-true}
-use Rattle.chart.specs.Chart.{Part, End, Node, Board, ready, Got, got, refused, _then_, byte, many, isText, textByte, text, end, items, body, entry, bodies, endsOf, targets, targetsOf, firstOutside, judgeTargets, judge, judged, chart}
+use borrow.Author.Tests.{lt-ltb, le-ltb, le-leb, lt-leb, eq-eqb}
+use Rattle.chart.specs.Chart.{Part, End, Node, Board, ready, Got, got, refused, _then_, byte, many, characters, text, end, items, body, entry, bodies, endsOf, targets, targetsOf, firstOutside, judgeTargets, judge, judged, chart, byteC2, byteB0}
+use Rattle.chart.specs.Text.{Texted, empty, plain, degree, charactersIn}
 use Rattle.laws.specs.Lists.{All}
 use Rattle.chart.specs.Encode.{Written, Drawn, textBytes, endBytes, joined, bodyBytes, contentsBytes, encode, placeText, placeEnd, placed, placeNode, placeAll, TextWithin, EndWithin, NodeWithin, drawnEnds, Within}
-use Rattle.laws.proofs.Lists.{all-map, all-join}
+use Rattle.laws.proofs.Lists.{all-join}
+use Rattle.chart.proofs.Gives.{text-low, text-no-sign}
 use Rattle.chart.proofs.Accepts.{accepted}
 
 -- ---- a byte at its place
@@ -35,21 +37,28 @@ pub record Reads {A : Type 0} (s : List ℕ) (g : Got A) (x : A) (e : ℕ) (l : 
   pub is : g ≡ got x e
   pub rest : drop e s ≡ l
 
-byte-reads : (s : List ℕ) (at b : ℕ) (l : List ℕ) → drop at s ≡ b ∷ l → Reads s (byte s at) b (at + 1) l
+pub byte-reads : (s : List ℕ) (at b : ℕ) (l : List ℕ) → drop at s ≡ b ∷ l → Reads s (byte s at) b (at + 1) l
 byte-reads s at b l e = let h = here at s b l e in record { is = rw (lt-ltb at (length s) (h .inside), h .is); rest = rw (add-one at) (h .rest) }
 
-bytes-read : (bs : List ℕ) (s : List ℕ) (at : ℕ) (l : List ℕ) → drop at s ≡ bs ++ l → All (λ b. isText b ≡ true) bs → Reads s (many (length bs) (textByte s) at) bs (at + length bs) l
-bytes-read [] s at l e a = let z : at + 0 ≡ at = omega arith in record { is = rw z; rest = rw z e }
-bytes-read (b ∷ bs) s at l e a =
-    let h = byte-reads s at b (bs ++ l) e in
-    let r = bytes-read bs s (at + 1) l (h .rest) (a .1) in
-    let z : at + suc (length bs) ≡ at + 1 + length bs = omega arith in
-    record { is = rw (h .is, a .0, r .is, z); rest = rw z (r .rest) }
+pub characters-read : {t : List ℕ} → Texted t → (s : List ℕ) (at : ℕ) (l : List ℕ) → drop at s ≡ t ++ l → Reads s (characters (length t) s at) (charactersIn t) (at + length t) l
+characters-read empty s at l e = let z : at + 0 ≡ at = omega arith in record { is = rw z; rest = rw z e }
+characters-read (plain {b = b} {t = []} i w) s at l e = let h = byte-reads s at b l e in record { is = rw (h .is, i); rest = h .rest }
+characters-read (plain {b = b} {t = c ∷ t} i w) s at l e =
+    let h = byte-reads s at b (c ∷ (t ++ l)) e in
+    let r = characters-read w s (at + 1) l (h .rest) in
+    let z : at + suc (suc (length t)) ≡ at + 1 + suc (length t) = omega arith in
+    record { is = rw (h .is, text-no-sign b i, i, r .is, z); rest = rw z (r .rest) }
+characters-read (degree {t = t} w) s at l e =
+    let h = byte-reads s at byteC2 (byteB0 ∷ (t ++ l)) e in
+    let k = byte-reads s (at + 1) byteB0 (t ++ l) (h .rest) in
+    let r = characters-read w s (at + 1 + 1) l (k .rest) in
+    let z : at + suc (suc (length t)) ≡ at + 1 + 1 + length t = omega arith in
+    record { is = rw (h .is, k .is, r .is, z); rest = rw z (r .rest) }
 
 text-reads : (t : List ℕ) (s : List ℕ) (at : ℕ) (l : List ℕ) → drop at s ≡ textBytes t ++ l → TextWithin t → Reads s (text s at) (placeText at t) (at + length (textBytes t)) l
 text-reads t s at l e w =
     let h = byte-reads s at (length t) (t ++ l) e in
-    let r = bytes-read t s (at + 1) l (h .rest) (w .bytes) in
+    let r = characters-read (w .texted) s (at + 1) l (h .rest) in
     let z : at + suc (length t) ≡ at + 1 + length t = omega arith in
     record { is = rw (h .is, le-leb (length t) 24 (w .short), r .is, z); rest = rw z (r .rest) }
 
@@ -194,16 +203,13 @@ joined-bytes : {A : Type 0} (P : A → Type 0) (bytes : A → List ℕ) → ((x 
 joined-bytes P bytes f [] a = tt
 joined-bytes P bytes f (x ∷ xs) a = all-join Byte (bytes x) (joined bytes xs) (f x (a .0)) (joined-bytes P bytes f xs (a .1))
 
-text-byte : (b : ℕ) → isText b ≡ true → Byte b
-text-byte b e = go (leb 32 b) (leb b 126) refl e
-  where
-    go : (c d : Bool) → leb b 126 ≡ d → c && d ≡ true → Byte b
-    go true true h q = omega (arith, leb-true b 126 h)
-    go true false h q = let z : _≡_ {A = ℕ} 0 1 = cc in absurd (omega arith)
-    go false d h q = let z : _≡_ {A = ℕ} 0 1 = cc in absurd (omega arith)
+texted-made : {t : List ℕ} → Texted t → All Byte t
+texted-made empty = tt
+texted-made (plain {b = b} i w) = (omega (arith, text-low b i), texted-made w)
+texted-made (degree w) = (omega arith, (omega arith, texted-made w))
 
 text-made : (t : List ℕ) → TextWithin t → All Byte (textBytes t)
-text-made t w = (omega (arith, w .short), all-map text-byte t (w .bytes))
+text-made t w = (omega (arith, w .short), texted-made (w .texted))
 
 module _ (n : ℕ) (few : n ≤ 32) where
   end-made : (e : Written) → EndWithin n e → All Byte (endBytes e)

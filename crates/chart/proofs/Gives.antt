@@ -5,13 +5,14 @@ use native.Mathlib.Omega.{arith}
 use native.Mathlib.Numerals.{add-one}
 use native.Mathlib.Nat.{mul-suc}
 use mathlib.Core.Path.{_≡_, refl, ap, sym, _∙_}
-use mathlib.Core.Bool.{Bool, true, false, cond}
+use mathlib.Core.Bool.{Bool, true, false, cond, _&&_}
 use mathlib.Core.List.{List, [], _∷_, _++_}
 use lib.Dec.{eqb, leb, ltb}
 use lib.ListN.{length, getD, take, drop}
 use lib.Seq.{drop-cons}
-use borrow.Author.Tests.{ltb-true, ltb-false, leb-true, eqb-true}
-use Rattle.chart.specs.Chart.{Part, End, Node, Counts, Board, endsOf, Refusal, Got, got, refused, _then_, byte, many, isText, textByte, text, end, counts, items, body, entry, bodies}
+use borrow.Author.Tests.{ltb-true, ltb-false, leb-true, eqb-true, ne-eqb}
+use Rattle.chart.specs.Chart.{Part, End, Node, Counts, Board, endsOf, Refusal, Got, got, refused, _then_, byte, many, isText, textByte, characters, text, end, counts, items, body, entry, bodies, byteC2, byteB0}
+use Rattle.chart.specs.Text.{Texted, empty, plain, degree, charactersIn, size, ending}
 use Rattle.laws.specs.Lists.{All}
 use Rattle.chart.specs.Accepted.{Fitting}
 
@@ -28,6 +29,14 @@ pub gives-if : {A : Type 0} (b : Bool) (g : Got A) (r : Refusal) (Q : A → ℕ 
 gives-if true g r Q p = p refl
 gives-if false g r Q p = tt
 
+pub gives-unless : {A : Type 0} (b : Bool) (g : Got A) (r : Refusal) (Q : A → ℕ → Type 0) → (b ≡ false → Gives g Q) → Gives (cond b (refused r) g) Q
+gives-unless true g r Q p = tt
+gives-unless false g r Q p = p refl
+
+pub gives-or : {A : Type 0} (b : Bool) (g h : Got A) (Q : A → ℕ → Type 0) → (b ≡ true → Gives g Q) → (b ≡ false → Gives h Q) → Gives (cond b g h) Q
+gives-or true g h Q p q = p refl
+gives-or false g h Q p q = q refl
+
 -- the byte is inside the chart
 pub record Byte (s : List ℕ) (at : ℕ) (b e : ℕ) : Type 0 where
   pub after : e ≡ at + 1
@@ -37,40 +46,107 @@ pub record Byte (s : List ℕ) (at : ℕ) (b e : ℕ) : Type 0 where
 pub byte-gives : (s : List ℕ) (at : ℕ) → Gives (byte s at) (Byte s at)
 byte-gives s at = gives-if (ltb at (length s)) (got (getD s at 0) (at + 1)) _ (Byte s at) (λ e. let l : at < length s = ltb-true at (length s) e in record { after = refl; inside = omega arith; is = refl })
 
--- a text byte, with what stands after it
-pub record TextByte (s : List ℕ) (at : ℕ) (b e : ℕ) : Type 0 where
-  pub byte : Byte s at b e
-  pub text : isText b ≡ true
+-- ---- characters
+-- a text byte is small, so it begins no degree sign
+pub text-low : (b : ℕ) → isText b ≡ true → b ≤ 126
+text-low b e = go (leb 32 b) (leb b 126) refl e
+  where
+    go : (c d : Bool) → leb b 126 ≡ d → c && d ≡ true → b ≤ 126
+    go true true h q = leb-true b 126 h
+    go true false h q = let z : _≡_ {A = ℕ} 0 1 = cc in absurd (omega arith)
+    go false d h q = let z : _≡_ {A = ℕ} 0 1 = cc in absurd (omega arith)
 
-text-byte-gives : (s : List ℕ) (at : ℕ) → Gives (textByte s at) (TextByte s at)
-text-byte-gives s at =
-    gives-then (byte s at) _ (Byte s at) _ (byte-gives s at)
-    (λ b e h. gives-if (isText b) (got b e) _ (TextByte s at) (λ t. record { byte = h; text = t }))
+pub text-no-sign : (b : ℕ) → isText b ≡ true → eqb b byteC2 ≡ false
+text-no-sign b e = ne-eqb b byteC2 (λ h. omega (arith, text-low b e))
 
--- the k bytes from at on are text bytes
-abbrev pub Texts : List ℕ → ℕ → ℕ → Type 0
-Texts s at k = All (λ b. isText b ≡ true) (take k (drop at s))
+-- a character that is no degree sign, and the others
+pub counted-plain : (b : ℕ) (t : List ℕ) → eqb b byteC2 ≡ false → charactersIn (b ∷ t) ≡ suc (charactersIn t)
+counted-plain b [] e = refl
+counted-plain b (c ∷ t) e = rw e
 
--- k text bytes
-pub record Bytes (s : List ℕ) (at k : ℕ) (bs : List ℕ) (e : ℕ) : Type 0 where
+pub ending-from : (k : ℕ) (s : List ℕ) (at : ℕ) → at ≤ ending k s at
+unfolding ending
+ending-from zero s at = omega arith
+ending-from (suc k) s at = omega (arith, ending-from k s (at + size (getD s at 0)))
+
+-- k bytes of text from at on, which are n characters
+pub record Characters (s : List ℕ) (at k n e : ℕ) : Type 0 where
   pub after : e ≡ at + k
   pub inside : at ≤ length s → e ≤ length s
-  pub texts : Texts s at k
+  pub few : n ≤ k
+  pub ends : ending n s at ≡ e
+  pub texted : Texted (take k (drop at s))
+  pub counted : charactersIn (take k (drop at s)) ≡ n
 
-texts-more : (s : List ℕ) (at k b e : ℕ) → TextByte s at b e → Texts s e k → Texts s at (suc k)
-texts-more s at k b e h r =
-    let l : at < length s = omega (arith, h .byte .after, h .byte .inside) in
-    let f : e ≡ suc at = h .byte .after ∙ add-one at in
-    rw (drop-cons s at 0 l) (rw (h .byte .is) at (h .text), rw f at r)
+no-characters : (s : List ℕ) (at : ℕ) → Characters s at 0 0 at
+unfolding ending
+no-characters s at = record { after = omega arith; inside = λ h. h; few = omega arith; ends = refl; texted = empty; counted = refl }
 
-pub bytes-give : (k : ℕ) (s : List ℕ) (at : ℕ) → Gives (many k (textByte s) at) (Bytes s at k)
-bytes-give zero s at = record { after = omega arith; inside = λ h. h; texts = tt }
-bytes-give (suc k) s at =
-    gives-then (textByte s at) _ (TextByte s at) _ (text-byte-gives s at)
-    (λ b e h. gives-then (many k (textByte s) e) _ (Bytes s e k) _ (bytes-give k s e)
-    (λ bs f g.
-    let i : f ≤ length s = g .inside (h .byte .inside) in
-    record { after = omega (arith, h .byte .after); inside = λ l. i; texts = texts-more s at k b e h (g .texts) }))
+module _ (s : List ℕ) (at b e : ℕ) (h : Byte s at b e) where
+  here : drop at s ≡ b ∷ drop e s
+  here =
+      let l : at < length s = omega (arith, h .after, h .inside) in
+      let f : e ≡ suc at = h .after ∙ add-one at in
+      drop-cons s at 0 l ∙ rw (f, h .is)
+
+  -- a text byte, and k bytes more
+  plain-more : isText b ≡ true → (k n f : ℕ) → Characters s e k n f → Characters s at (suc k) (suc n) f
+  unfolding ending
+  plain-more t k n f r =
+      let o : eqb (getD s at 0) byteC2 ≡ false = rw (← h .is) (text-no-sign b t) in
+      let i : f ≤ length s = r .inside (h .inside) in
+      record {
+        after = omega (arith, h .after, r .after);
+        inside = λ l. i;
+        few = omega (arith, r .few);
+        ends = rw (o, ← h .after) (r .ends);
+        texted = rw here (plain t (r .texted));
+        counted = rw here (counted-plain b (take k (drop e s)) (text-no-sign b t) ∙ ap suc (r .counted));
+      }
+
+  -- a degree sign, and k bytes more
+  degree-more : eqb b byteC2 ≡ true → (c g : ℕ) → Byte s e c g → eqb c byteB0 ≡ true → (k n f : ℕ) → Characters s g k n f → Characters s at (suc (suc k)) (suc n) f
+  unfolding ending
+  degree-more t c g j u k n f r =
+      let o : eqb (getD s at 0) byteC2 ≡ true = rw (← h .is) t in
+      let i : f ≤ length s = r .inside (j .inside) in
+      let two : g ≡ at + 2 = omega (arith, h .after, j .after) in
+      let both : drop at s ≡ byteC2 ∷ byteB0 ∷ drop g s = here ∙ rw (eqb-true b byteC2 t, after-here, eqb-true c byteB0 u) in
+      record {
+        after = omega (arith, h .after, j .after, r .after);
+        inside = λ l. i;
+        few = omega (arith, r .few);
+        ends = rw (o, ← two) (r .ends);
+        texted = rw both (degree (r .texted));
+        counted = rw both (ap suc (r .counted));
+      }
+    where
+      after-here : drop e s ≡ c ∷ drop g s
+      after-here =
+          let l : e < length s = omega (arith, j .after, j .inside) in
+          let q : g ≡ suc e = j .after ∙ add-one e in
+          drop-cons s e 0 l ∙ rw (q, j .is)
+
+text-byte-gives : (s : List ℕ) (at : ℕ) → Gives (textByte s at) (λ b e. Byte s at b e × (isText b ≡ true))
+text-byte-gives s at =
+    gives-then (byte s at) _ (Byte s at) _ (byte-gives s at)
+    (λ b e h. gives-if (isText b) (got b e) _ (λ b e. Byte s at b e × (isText b ≡ true)) (λ t. (h, t)))
+
+pub characters-give : (k : ℕ) (s : List ℕ) (at : ℕ) → Gives (characters k s at) (Characters s at k)
+characters-give zero s at = no-characters s at
+characters-give (suc zero) s at =
+    gives-then (textByte s at) _ (λ b e. Byte s at b e × (isText b ≡ true)) _ (text-byte-gives s at)
+    (λ b e h. plain-more s at b e (h .0) (h .1) 0 0 e (no-characters s e))
+characters-give (suc (suc k)) s at =
+    gives-then (byte s at) _ (Byte s at) _ (byte-gives s at)
+    (λ b e h. gives-or (eqb b byteC2) _ _ (Characters s at (suc (suc k)))
+    (λ t. gives-then (byte s e) _ (Byte s e) _ (byte-gives s e)
+    (λ c g j. gives-if (eqb c byteB0) _ _ (Characters s at (suc (suc k)))
+    (λ u. gives-then (characters k s g) _ (Characters s g k) _ (characters-give k s g)
+    (λ n f r. degree-more s at b e h t c g j u k n f r))))
+    (λ t. gives-if (isText b) _ _ (Characters s at (suc (suc k)))
+    (λ u. gives-then (characters (suc k) s e) _ (Characters s e (suc k)) _ (characters-give (suc k) s e)
+    (λ n f r. plain-more s at b e h u (suc k) n f r))))
 
 -- an item of at most m bytes, from at to e
 pub record One {A : Type 0} (P : A → Type 0) (s : List ℕ) (m at : ℕ) (x : A) (e : ℕ) : Type 0 where
@@ -100,11 +176,24 @@ pub text-gives : (s : List ℕ) (at : ℕ) → Gives (text s at) (One (Fitting s
 text-gives s at =
     gives-then (byte s at) _ (Byte s at) _ (byte-gives s at)
     (λ len begin h. gives-if (leb len 24) _ _ _
-    (λ t. gives-then (many len (textByte s) begin) _ (Bytes s begin len) _ (bytes-give len s begin)
-    (λ bs e g.
+    (λ t. gives-then (characters len s begin) _ (Characters s begin len) _ (characters-give len s begin)
+    (λ n e g.
     let l : len ≤ 24 = leb-true len 24 t in
     let i : e ≤ length s = g .inside (h .inside) in
-    record { fits = record { short = l; inside = omega arith; bytes = g .texts }; inside = i; size = omega arith })))
+    let all : ending n s begin - begin ≡ len = rw (g .ends) (omega (arith, g .after)) in
+    let before : begin - 1 ≡ at = omega (arith, h .after) in
+    record {
+      fits = record {
+        inside = rw (g .ends) i;
+        texted = rw all (g .texted);
+        counted = rw all (g .counted);
+        bytes = rw (all, before) (h .is);
+        most = rw all l;
+        short = omega (arith, g .few);
+      };
+      inside = i;
+      size = omega (arith, g .after, h .after);
+    })))
 
 -- the text of a source or a sink
 abbrev pub EndFits : List ℕ → End → Type 0

@@ -5,14 +5,15 @@ use native.Mathlib.Omega.{arith}
 use native.Mathlib.Nat.{not-suc-le-zero}
 use native.Mathlib.Numerals.{add-one}
 use mathlib.Core.Path.{_≡_, refl, ap, sym, _∙_}
-use mathlib.Core.Bool.{Bool, true, false, cond, _&&_}
+use mathlib.Core.Bool.{Bool, true, false}
 use mathlib.Core.List.{List, [], _∷_, _++_}
-use lib.Dec.{eqb, leb, ltb}
+use lib.Dec.{eqb, ltb}
 use lib.ListN.{length, getD}
-use borrow.Author.Tests.{lt-ltb, le-ltb, le-leb, lt-leb, eq-eqb, ne-eqb}
+use borrow.Author.Tests.{lt-ltb, le-ltb, ltb-false, le-leb, lt-leb, eq-eqb, ne-eqb}
+use Rattle.chart.specs.declared.reader.Step.{Step}
 use Rattle.chart.specs.declared.reader.Skip.{Skip}
 use Rattle.chart.specs.declared.reader.Span.{Span}
-use Rattle.chart.specs.Chart.{Part, End, Node, Counts, Board, Refusal, misplaced, cutBody, manyLines, longText, notText, numberOf, Got, got, refused, _then_, byte, many, textByte, text, end, items, counts, body, bodies, entry}
+use Rattle.chart.specs.Chart.{Part, End, Node, Counts, Board, Refusal, misplaced, cutBody, manyLines, longText, notText, numberOf, Got, got, refused, _then_, byte, many, isText, characters, text, end, items, counts, body, bodies, entry, byteC2, byteB0}
 use Rattle.chart.specs.declared.reader.End.{End as EndRead}
 use Rattle.laws.proofs.Lists.{one-more}
 use Rattle.chart.specs.declared.Item.{Item}
@@ -26,7 +27,8 @@ use Rattle.chart.specs.declared.reader.Texts.{Texts}
 use Rattle.chart.specs.declared.reader.Nodes.{Nodes}
 use Rattle.chart.specs.Tables.{itemOf, lineOf}
 use Rattle.chart.specs.code.Filled.{emptyTable, emptyLines, emptyBoard, pushed, pushedLine, pushAll, pushLines, withNode, withNodes}
-use Rattle.chart.specs.code.Steps.{skipOf, spanOf, endOf, endsOf, textsOf, countsOf, itemsRead, nodeOf, nodesOf, skips, reads-ends, reads-texts}
+use Rattle.chart.specs.code.Steps.{characterAt, stepOf, skipOf, spanOf, endOf, endsOf, textsOf, countsOf, itemsRead, nodeOf, nodesOf, skips, reads-ends, reads-texts}
+use Rattle.chart.proofs.Gives.{Gives, gives-then, gives-if, gives-or, gives-unless, Byte, byte-gives, text-no-sign}
 
 -- a refusal's number is not 0
 pub number-some : (r : Refusal) → numberOf r ≡ 0 → ⊥
@@ -36,40 +38,169 @@ number-some manyLines e = omega arith
 number-some longText e = omega arith
 number-some notText e = omega arith
 
--- ---- text bytes
-skip-cons : {A : Type 0} (x : A) (g : Got (List A)) → skipOf (g then λ xs end. got (x ∷ xs) end) ≡ skipOf g
-skip-cons x (got xs at) = refl
-skip-cons x (refused r) = refl
+-- ---- characters
+-- the next one, by the tests
+module _ (left : ℕ) (s : List ℕ) (at : ℕ) where
+  pub step-cut : length s ≤ at → characterAt left s at ≡ refused cutBody
+  step-cut h = rw (le-ltb at (length s) h)
 
-module _ (s : List ℕ) (at left : ℕ) (h : 0 < left) where
-  pub skip-cut : length s ≤ at → skips s at left ≡ record { refused = 6; end = 0 }
-  skip-cut l = one-more (skips s at) left h ∙ rw (le-ltb at (length s) l)
+  module _ (h : at < length s) where
+    abbrev first : ℕ
+    first = getD s at 0
 
-  module _ (l : at < length s) where
-    pub skip-low : getD s at 0 < 32 → skips s at left ≡ record { refused = 9; end = 0 }
-    skip-low b = one-more (skips s at) left h ∙ rw (lt-ltb at (length s) l, lt-leb 32 (getD s at 0) b)
+    no-sign : first ≤ 126 → eqb first byteC2 ≡ false
+    no-sign l = ne-eqb first byteC2 (λ e. omega arith)
 
-    module _ (a : 32 ≤ getD s at 0) where
-      pub skip-high : 126 < getD s at 0 → skips s at left ≡ record { refused = 9; end = 0 }
-      skip-high b = one-more (skips s at) left h ∙ rw (lt-ltb at (length s) l, le-leb 32 (getD s at 0) a, lt-leb (getD s at 0) 126 b)
+    pub step-low : first < 32 → characterAt left s at ≡ refused notText
+    step-low l = rw (lt-ltb at (length s) h, no-sign (omega arith), lt-leb 32 first l)
 
-      pub skip-on : getD s at 0 ≤ 126 → skips s at left ≡ skips s (at + 1) (left - 1)
-      skip-on b =
-          one-more (skips s at) left h
-          ∙ rw (lt-ltb at (length s) l, le-leb 32 (getD s at 0) a, le-leb (getD s at 0) 126 b) (skip-cons (getD s at 0) (many (left - 1) (textByte s) (at + 1)))
+    pub step-text : 32 ≤ first → first ≤ 126 → characterAt left s at ≡ got 1 (at + 1)
+    step-text l m = rw (lt-ltb at (length s) h, no-sign m, le-leb 32 first l, le-leb first 126 m)
+
+    pub step-high : 32 ≤ first → 126 < first → (first ≡ byteC2 → ⊥) → characterAt left s at ≡ refused notText
+    step-high l m n = rw (lt-ltb at (length s) h, ne-eqb first byteC2 n, le-leb 32 first l, lt-leb first 126 m)
+
+    module _ (e : first ≡ byteC2) where
+      pub step-last : left < 2 → characterAt left s at ≡ refused notText
+      step-last l = rw (lt-ltb at (length s) h, eq-eqb first byteC2 e, lt-ltb left 2 l)
+
+      module _ (l : 2 ≤ left) where
+        pub step-gone : length s ≤ at + 1 → characterAt left s at ≡ refused cutBody
+        step-gone g = rw (lt-ltb at (length s) h, eq-eqb first byteC2 e, le-ltb left 2 l, le-ltb (at + 1) (length s) g)
+
+        module _ (g : at + 1 < length s) where
+          pub step-alone : (getD s (at + 1) 0 ≡ byteB0 → ⊥) → characterAt left s at ≡ refused notText
+          step-alone n = rw (lt-ltb at (length s) h, eq-eqb first byteC2 e, le-ltb left 2 l, lt-ltb (at + 1) (length s) g, ne-eqb (getD s (at + 1) 0) byteB0 n)
+
+          pub step-sign : getD s (at + 1) 0 ≡ byteB0 → characterAt left s at ≡ got 2 (at + 1 + 1)
+          step-sign n = rw (lt-ltb at (length s) h, eq-eqb first byteC2 e, le-ltb left 2 l, lt-ltb (at + 1) (length s) g, eq-eqb (getD s (at + 1) 0) byteB0 n)
+
+-- the first of some characters, which have so many bytes together, and the others
+abbrev first-of : ℕ → List ℕ → Got ℕ → Got ℕ
+first-of left s g = g then λ n at. characters (left - n) s at then λ m end. got (suc m) end
+
+module _ (s : List ℕ) (at : ℕ) where
+  abbrev b : ℕ
+  b = getD s at 0
+
+  abbrev c : ℕ
+  c = getD s (at + 1) 0
+
+  first-one : (x y z : Bool) → ltb at (length s) ≡ x → eqb b byteC2 ≡ y → isText b ≡ z → characters 1 s at ≡ first-of 1 s (characterAt 1 s at)
+  first-one false y z e f g = rw e
+  first-one true true true e f g = let i : true ≡ false = sym f ∙ text-no-sign b g in let o : _≡_ {A = ℕ} 0 1 = cc in absurd (omega arith)
+  first-one true true false e f g = rw (e, f, g)
+  first-one true false true e f g = rw (e, f, g)
+  first-one true false false e f g = rw (e, f, g)
+
+  module _ (k : ℕ) where
+    some : ltb (suc (suc k)) 2 ≡ false
+    some = le-ltb (suc (suc k)) 2 (omega arith)
+
+    less-one : suc (suc k) - 1 ≡ suc k
+    less-one = omega arith
+
+    less-two : suc (suc k) - 2 ≡ k
+    less-two = omega arith
+
+    abbrev FirstMore : Type 0
+    FirstMore = characters (suc (suc k)) s at ≡ first-of (suc (suc k)) s (characterAt (suc (suc k)) s at)
+
+    first-degree : (x y : Bool) → ltb at (length s) ≡ true → eqb b byteC2 ≡ true → ltb (at + 1) (length s) ≡ x → eqb c byteB0 ≡ y → FirstMore
+    first-degree false y e f g h = rw (e, f, some, g)
+    first-degree true false e f g h = rw (e, f, some, g, h)
+    first-degree true true e f g h = rw (e, f, some, g, h, less-two)
+
+    first-more : (x y z : Bool) → ltb at (length s) ≡ x → eqb b byteC2 ≡ y → isText b ≡ z → FirstMore
+    first-more false y z e f g = rw e
+    first-more true true z e f g = first-degree (ltb (at + 1) (length s)) (eqb c byteB0) e f refl refl
+    first-more true false true e f g = rw (e, f, g, less-one)
+    first-more true false false e f g = rw (e, f, g)
+
+first-character : (left : ℕ) (s : List ℕ) (at : ℕ) → 0 < left → characters left s at ≡ first-of left s (characterAt left s at)
+first-character zero s at h = absurd (omega arith)
+first-character (suc zero) s at h = first-one s at (ltb at (length s)) (eqb (getD s at 0) byteC2) (isText (getD s at 0)) refl refl refl
+first-character (suc (suc k)) s at h = first-more s at k (ltb at (length s)) (eqb (getD s at 0) byteC2) (isText (getD s at 0)) refl refl refl
+
+-- a character of a text of which so many bytes are left: it has n bytes
+pub record Sized (s : List ℕ) (at left n e : ℕ) : Type 0 where
+  pub after : e ≡ at + n
+  pub inside : e ≤ length s
+  pub some : 0 < n
+  pub fits : n ≤ left
+
+character-gives : (left : ℕ) (s : List ℕ) (at : ℕ) → 0 < left → Gives (characterAt left s at) (Sized s at left)
+character-gives left s at h =
+    gives-then (byte s at) _ (Byte s at) _ (byte-gives s at)
+    (λ b e i. gives-or (eqb b byteC2) _ _ (Sized s at left)
+    (λ t. gives-unless (ltb left 2) _ _ (Sized s at left)
+    (λ u. gives-then (byte s e) _ (Byte s e) _ (byte-gives s e)
+    (λ c f j. gives-if (eqb c byteB0) (got 2 f) _ (Sized s at left)
+    (λ v. record { after = omega (arith, i .after, j .after); inside = j .inside; some = omega arith; fits = ltb-false left 2 u }))))
+    (λ t. gives-if (isText b) (got 1 e) _ (Sized s at left) (λ u. record { after = i .after; inside = i .inside; some = omega arith; fits = omega arith })))
+
+skip-suc : (n : ℕ) (g : Got ℕ) → skipOf ((g then λ m end. got (suc m) end) then λ m end. got (n + m) end) ≡ skipOf (g then λ m end. got (n + 1 + m) end)
+skip-suc n (got m at) = let z : n + suc m ≡ n + 1 + m = omega arith in rw z
+skip-suc n (refused r) = refl
+
+module _ (n : ℕ) (s : List ℕ) (at left : ℕ) (r : Step) where
+  step-refused : (g : Got ℕ) → r ≡ stepOf g → (r .refused ≡ 0 → ⊥) → skipOf (first-of left s g then λ m end. got (n + m) end) ≡ record { refused = r .refused; len = 0; end = 0 }
+  step-refused (got x a) e h = absurd (h (ap (λ (x : Step). x .refused) e))
+  step-refused (refused w) e h = rw e
+
+  step-on : (g : Got ℕ) → Gives g (Sized s at left) → r ≡ stepOf g → r .refused ≡ 0 → skipOf (first-of left s g then λ m end. got (n + m) end) ≡ skips (n + 1) s (at + r .bytes) (left - r .bytes)
+  step-on (got x a) p e h = rw (e, p .after) (skip-suc n (characters (left - x) s (at + x)))
+  step-on (refused w) p e h = absurd (number-some w (sym (ap (λ (x : Step). x .refused) e) ∙ h))
+
+  step-sized : (g : Got ℕ) → Gives g (Sized s at left) → r ≡ stepOf g → r .refused ≡ 0 → Sized s at left (r .bytes) (at + r .bytes)
+  step-sized (got x a) p e h = rw (e, ← p .after) p
+  step-sized (refused w) p e h = absurd (number-some w (sym (ap (λ (x : Step). x .refused) e) ∙ h))
+
+  module _ (h : 0 < left) (e : r ≡ stepOf (characterAt left s at)) where
+    pub skip-refused : (r .refused ≡ 0 → ⊥) → skips n s at left ≡ record { refused = r .refused; len = 0; end = 0 }
+    skip-refused o = rw (first-character left s at h) (step-refused (characterAt left s at) e o)
+
+    pub skip-on : r .refused ≡ 0 → skips n s at left ≡ skips (n + 1) s (at + r .bytes) (left - r .bytes)
+    skip-on o = rw (first-character left s at h) (step-on (characterAt left s at) (character-gives left s at h) e o)
+
+    pub skip-sized : r .refused ≡ 0 → Sized s at left (r .bytes) (at + r .bytes)
+    skip-sized o = step-sized (characterAt left s at) (character-gives left s at h) e o
+
+-- from the first character on, and none
+skip-none : (g : Got ℕ) → skipOf (g then λ m end. got (0 + m) end) ≡ skipOf g
+skip-none (got m at) = let z : 0 + m ≡ m = omega arith in rw z
+skip-none (refused r) = refl
+
+pub skip-all : (s : List ℕ) (at k : ℕ) → skips 0 s at k ≡ skipOf (characters k s at)
+skip-all s at k = skip-none (characters k s at)
+
+pub skip-end : (n : ℕ) (s : List ℕ) (at left : ℕ) → left ≡ 0 → record { refused = 0; len = n; end = at } ≡ skips n s at left
+skip-end n s at left e = let z : n + 0 ≡ n = omega arith in rw (e, z)
 
 -- ---- a text
 -- what a skip says of the text that it belongs to
-abbrev spanned : ℕ → ℕ → Got (List ℕ) → Got Part
-spanned begin len g = g then λ bytes end. got (record { at = begin; len = len }) end
+abbrev spanned : ℕ → Got ℕ → Got Part
+spanned begin g = g then λ n end. got (record { at = begin; len = n }) end
 
-pub span-refused : (begin len : ℕ) (g : Got (List ℕ)) (r : Skip) → r ≡ skipOf g → (r .refused ≡ 0 → ⊥) → record { refused = r .refused; at = 0; len = 0; end = 0 } ≡ spanOf (spanned begin len g)
-span-refused begin len (got xs at) r e h = absurd (h (ap (λ (x : Skip). x .refused) e))
-span-refused begin len (refused n) r e h = rw e
+-- by the tests: the length byte counts bytes
+module _ (s : List ℕ) (at : ℕ) where
+  pub text-cut : length s ≤ at → text s at ≡ refused cutBody
+  text-cut h = rw (le-ltb at (length s) h)
 
-pub span-read : (begin len : ℕ) (g : Got (List ℕ)) (r : Skip) → r ≡ skipOf g → r .refused ≡ 0 → record { refused = 0; at = begin; len = len; end = r .end } ≡ spanOf (spanned begin len g)
-span-read begin len (got xs at) r e h = rw e
-span-read begin len (refused n) r e h = absurd (number-some n (sym (ap (λ (x : Skip). x .refused) e) ∙ h))
+  module _ (h : at < length s) where
+    pub text-long : 24 < getD s at 0 → text s at ≡ refused longText
+    text-long l = rw (lt-ltb at (length s) h, lt-leb (getD s at 0) 24 l)
+
+    pub text-from : getD s at 0 ≤ 24 → text s at ≡ spanned (at + 1) (characters (getD s at 0) s (at + 1))
+    text-from l = rw (lt-ltb at (length s) h, le-leb (getD s at 0) 24 l)
+
+pub span-refused : (begin : ℕ) (g : Got ℕ) (r : Skip) → r ≡ skipOf g → (r .refused ≡ 0 → ⊥) → record { refused = r .refused; at = 0; len = 0; end = 0 } ≡ spanOf (spanned begin g)
+span-refused begin (got n at) r e h = absurd (h (ap (λ (x : Skip). x .refused) e))
+span-refused begin (refused n) r e h = rw e
+
+pub span-read : (begin : ℕ) (g : Got ℕ) (r : Skip) → r ≡ skipOf g → r .refused ≡ 0 → record { refused = 0; at = begin; len = r .len; end = r .end } ≡ spanOf (spanned begin g)
+span-read begin (got n at) r e h = rw e
+span-read begin (refused n) r e h = absurd (number-some n (sym (ap (λ (x : Skip). x .refused) e) ∙ h))
 
 -- ---- a source or a sink
 abbrev ended : ℕ → Got Part → Got End

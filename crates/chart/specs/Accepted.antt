@@ -1,18 +1,26 @@
--- What an accepted chart has: the limits of document 01, module 1, as the crates above use them.
+-- What an accepted chart has: the limits of document 01, module 1, and of document 02 (L4), as the crates above use them.
 -- Assumes nothing.
-use Prim.Native.Nat.{ℕ, _+_, _≤_, _<_}
+use Prim.Native.Nat.{ℕ, _-_, _≤_, _<_}
 use mathlib.Core.Path.{_≡_}
-use mathlib.Core.Bool.{true}
 use mathlib.Core.List.{List}
-use lib.ListN.{length, getD, take, drop}
+use lib.ListN.{length, getD}
 use Rattle.laws.specs.Lists.{All}
-use Rattle.chart.specs.Chart.{Part, End, Node, Board, isText, endsOf}
+use Rattle.chart.specs.Chart.{Part, End, Node, Board, endsOf}
+use Rattle.chart.specs.Text.{Texted, charactersIn, ending, bytesOf, textOf}
 
--- 'Lengths are 0 to 24 .. text bytes 32 to 126', and the text is a part of the chart
+-- a text of the chart
 pub record Fitting (s : List ℕ) (t : Part) : Type 0 where
+  -- it is a part of the chart
+  pub inside : ending (t .len) s (t .at) ≤ length s
+  -- 'text bytes 32 to 126' and degree signs, no pair cut
+  pub texted : Texted (textOf s t)
+  -- 'that pair counts as one'
+  pub counted : charactersIn (textOf s t) ≡ t .len
+  -- 'The length byte still counts bytes': the part is the whole text
+  pub bytes : bytesOf s t ≡ getD s (t .at - 1) 0
+  -- 'and 24 bytes remain the most', so no text has more characters
+  pub most : bytesOf s t ≤ 24
   pub short : t .len ≤ 24
-  pub inside : t .at + t .len ≤ length s
-  pub bytes : All (λ b. isText b ≡ true) (take (t .len) (drop (t .at) s))
 
 -- a source or a sink of a chart with n nodes
 pub record Aimed (s : List ℕ) (n : ℕ) (e : End) : Type 0 where

@@ -1,5 +1,5 @@
 -- Charts and what they are read as. A case has the chart in hexadecimal and document 01's two numbers, 0 0 where it is accepted;
--- the answers are those of an independent reader written from document 01 (docs/DIFFERENCES.md).
+-- the answers are those of an independent reader written from documents 01 and 02 (docs/DIFFERENCES.md).
 -- Assumes nothing.
 use Prim.Native.Nat.{ℕ}
 use Prim.Native.String.{String}
@@ -133,6 +133,42 @@ cases =
     is "0101040000010002207e" 0 0 ∷
     -- accepted: a text of 24, and below
     is "0101040000010018616161616161616161616161616161616161616161616161" 0 0 ∷
+    -- accepted: a degree sign, and below
+    is "0101040000010002c2b0" 0 0 ∷
+    -- accepted: 45 degrees, and below
+    is "01010400000100043435c2b0" 0 0 ∷
+    -- accepted: 12 degree signs, 24 bytes, and below
+    is "0101040000010018c2b0c2b0c2b0c2b0c2b0c2b0c2b0c2b0c2b0c2b0c2b0c2b0" 0 0 ∷
+    -- 8: 13 characters, but 25 bytes
+    is "0101040000010019c2b0c2b0c2b0c2b0c2b0c2b0c2b0c2b0c2b0c2b0c2b0c2b078" 8 0 ∷
+    -- 9: C2 as the last byte of its text, where the chart ends too
+    is "0101040000010001c2" 9 0 ∷
+    is "010104000001000261c2" 9 0 ∷
+    is "0101040000010003c2b0c2" 9 0 ∷
+    -- 9: and where the chart goes on with its partner
+    is "0101040000020001c201b0" 9 0 ∷
+    is "0101040000010001c2b0" 9 0 ∷
+    -- 6: the chart ends after a C2 whose text goes on
+    is "0101040000010002c2" 6 0 ∷
+    is "010104000001000361c2" 6 0 ∷
+    -- 6: the chart ends after a degree sign whose text goes on
+    is "0101040000010003c2b0" 6 0 ∷
+    -- 9 before 6: C2 and no B0, judged before the next is looked for
+    is "0101040000010003c261" 9 0 ∷
+    -- 9: B0 without C2
+    is "0101040000010001b0" 9 0 ∷
+    is "0101040000010002b0c2" 9 0 ∷
+    is "0101040000010003c2b0b0" 9 0 ∷
+    -- 9: C2 without B0
+    is "0101040000010002c261" 9 0 ∷
+    is "0101040000010002c2b1" 9 0 ∷
+    is "0101040000010003c2c2b0" 9 0 ∷
+    -- 9: another pair that ends in B0
+    is "0101040000010002c3b0" 9 0 ∷
+    -- accepted: sinks with a degree sign and with two letters
+    is "0102060011000000020102c2b001026162000000" 0 0 ∷
+    -- accepted: degree signs in texts of all three kinds, and below
+    is "010104000102020002c2b003c2b04303616263000330c2b00000" 0 0 ∷
     []
 
 all-hold : allOf holds cases ≡ true
@@ -177,3 +213,23 @@ r9c = refl
 r8-24 : chart (hex "0101040000010018616161616161616161616161616161616161616161616161") ≡ ready (record { sources = []; lines = part 8 24 ∷ []; sinks = [] } ∷ [])
 unfolding chart
 r8-24 = refl
+
+-- a degree sign: one character
+sign : chart (hex "0101040000010002c2b0") ≡ ready (record { sources = []; lines = part 8 1 ∷ []; sinks = [] } ∷ [])
+unfolding chart
+sign = refl
+
+-- 45 degrees: three
+angle : chart (hex "01010400000100043435c2b0") ≡ ready (record { sources = []; lines = part 8 3 ∷ []; sinks = [] } ∷ [])
+unfolding chart
+angle = refl
+
+-- 24 bytes: twelve
+signs : chart (hex "0101040000010018c2b0c2b0c2b0c2b0c2b0c2b0c2b0c2b0c2b0c2b0c2b0c2b0") ≡ ready (record { sources = []; lines = part 8 12 ∷ []; sinks = [] } ∷ [])
+unfolding chart
+signs = refl
+
+-- in texts of all three kinds
+kinds : chart (hex "010104000102020002c2b003c2b04303616263000330c2b00000") ≡ ready (record { sources = record { to = 0; text = part 9 1 } ∷ []; lines = part 12 2 ∷ part 16 3 ∷ []; sinks = record { to = 0; text = part 21 2 } ∷ record { to = 0; text = part 26 0 } ∷ [] } ∷ [])
+unfolding chart
+kinds = refl

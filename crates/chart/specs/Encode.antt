@@ -2,11 +2,10 @@
 -- written so, is accepted and read as itself.
 -- Assumes nothing.
 use Prim.Native.Nat.{ℕ, zero, suc, _+_, _*_, _/_, _%_, _≤_, _<_}
-use mathlib.Core.Path.{_≡_}
-use mathlib.Core.Bool.{true}
 use mathlib.Core.List.{List, [], _∷_, _++_}
 use lib.ListN.{length}
-use Rattle.chart.specs.Chart.{Part, End, Node, Board, isText}
+use Rattle.chart.specs.Chart.{Part, End, Node, Board}
+use Rattle.chart.specs.Text.{Texted, charactersIn}
 use Rattle.laws.specs.Lists.{All}
 
 -- a node with its texts themselves
@@ -51,7 +50,7 @@ encode ps = 1 ∷ length ps ∷ (contentsBytes (2 + 2 * length ps) ps ++ joined 
 -- ---- what it is read as: the texts' places
 
 abbrev pub placeText : ℕ → List ℕ → Part
-placeText at t = record { at = at + 1; len = length t }
+placeText at t = record { at = at + 1; len = charactersIn t }
 
 abbrev pub placeEnd : ℕ → Written → End
 placeEnd at e = record { to = e .to; text = placeText (at + 1) (e .text) }
@@ -77,10 +76,10 @@ placeAll ps = placed bodyBytes placeNode (2 + 2 * length ps) ps
 -- ---- the limits
 
 pub record TextWithin (t : List ℕ) : Type 0 where
-  -- 'Lengths are 0 to 24'
+  -- 'Lengths are 0 to 24', in bytes
   pub short : length t ≤ 24
-  -- 'text bytes 32 to 126'
-  pub bytes : All (λ b. isText b ≡ true) t
+  -- 'text bytes 32 to 126', and degree signs
+  pub texted : Texted t
 
 pub record EndWithin (n : ℕ) (e : Written) : Type 0 where
   pub target : e .to < n

@@ -11,7 +11,7 @@ mod judge;
 mod reader;
 mod tables;
 
-// A source or a sink: its node, its target, and its text's place and length in the chart.
+// A source or a sink: its node, its target, its text's place in the chart, and how many characters that has.
 pub struct Item {
     pub owner: u8,
     pub to: u8,
@@ -25,7 +25,7 @@ pub struct Table {
     pub count: usize,
 }
 
-// A line: its text's place in the chart, its node, and its text's length. (In this order it takes 4 bytes.)
+// A line: its text's place in the chart, its node, and how many characters it has. (In this order it takes 4 bytes.)
 pub struct Line {
     pub at: u16,
     pub owner: u8,

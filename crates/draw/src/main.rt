@@ -34,7 +34,7 @@ fn put_attribute(name: &[u8], n: u32) {
     put(b"\"");
 }
 
-// A byte of a text: the five that XML reserves go by name.
+// A byte of a text: the five that XML reserves go by name, and both bytes of a degree sign as they are (UTF-8 is XML's default).
 fn put_escaped(c: u8) {
     match c {
         b'&' => put(b"&amp;"),

@@ -18,6 +18,7 @@ use Rattle.chart.specs.Chart.{Node as GivenNode}
 use Rattle.chart.specs.Tables.{noLine, lineOf}
 use Rattle.chart.specs.code.Filled.{partOf, ownedLines, linesOf as textsOf}
 use Rattle.chart.specs.Accepted.{Fitting, Formed, Accepted}
+use Rattle.chart.proofs.Gives.{ending-from}
 use Rattle.chart.proofs.Accepts.{accepted as accepts}
 use Rattle.graph.specs.declared.Item.{Item}
 use Rattle.graph.specs.declared.Tables.{Tables}
@@ -110,7 +111,7 @@ module _ (s : List ℕ) (d : Dag) (l : Fits s d) where
     texts-low true e =
         let i : k < length ps = ltb-true k (length ps) e in
         let f : Formed s (length ps) (getD ps k nobody) = all-in (Formed s (length ps)) ps k nobody i (ac .formed) in
-        rw (given-lines i, texts-given (getD ps k nobody .lines)) (all-map (λ t (q : Fitting s t). omega (arith, q .inside, ac .size)) (getD ps k nobody .lines) (f .lines))
+        rw (given-lines i, texts-given (getD ps k nobody .lines)) (all-map (λ t (q : Fitting s t). omega (arith, q .inside, ending-from (t .len) s (t .at), ac .size)) (getD ps k nobody .lines) (f .lines))
     texts-low false e = let n : Named (length ps) (nodeAt g k .lines) = l .inserted k (ltb-false k (length ps) e) h in rw (n .line) tt
 
   lows : All (λ (x : Node). All Low (textsIn (x .lines))) g

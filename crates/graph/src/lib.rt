@@ -19,8 +19,8 @@ mod cutting;
 mod reach;
 mod records;
 
-// A source or a sink: its text's place in the chart, its node, the node at the other end, its mark plus 1 (0 for none), and its
-// text's length. (In this order it takes 6 bytes.)
+// A source or a sink: its text's place in the chart, its node, the node at the other end, its mark plus 1 (0 for none), and how
+// many characters its text has. (In this order it takes 6 bytes.)
 pub struct Item {
     pub at: u16,
     pub owner: u8,

@@ -61,7 +61,7 @@ module _ (g : Graph) (first : List ℕ) (f : FirstColumns (length g) first) wher
     sheet-small : (sheet g cuts first .width ≤ 656640) × (sheet g cuts first .height ≤ 256256)
     unfolding sheet sheetOf
     sheet-small = (
-      omega (arith, columns-le cuts (z .nodes), z .nodes, z .texts, widths-le g (z .bytes), reach-le 1024 (columns (shapeOf g) (heights (shapeOf g)) first) (widths g)),
+      omega (arith, columns-le cuts (z .nodes), z .nodes, z .texts, widths-le g (z .narrow), reach-le 1024 (columns (shapeOf g) (heights (shapeOf g)) first) (widths g)),
       omega (arith, rows-le cuts (z .nodes), z .nodes, heights-le g (z .lines), reach-le 2048 (heights (shapeOf g)) (tallnesses g)),
     )
 

@@ -34,17 +34,17 @@ use Rattle.grid.specs.RenderGrid.{Box, Sheet, begins, textMoved, widths,
 use Rattle.grid.specs.Record.{boxesOf, soundOf}
 use Rattle.grid.specs.Curves.{noOutputs, boxRecord, recordOf}
 use Rattle.grid.specs.Sheeted.{ready, sheetOfDag, sheeted, outcomeOf}
-use Rattle.grid.proofs.SheetTheorem.{edgeBytes}
+use Rattle.grid.proofs.SheetTheorem.{edgeLength}
 use Rattle.grid.specs.BoxTheorem.{BoxTheorem}
 use Rattle.grid.specs.LaidOut.{writtenLines, labelsFor, linesIn, LaidOut, shapeCut, IsSheet}
 use Rattle.grid.proofs.ListLaws.{largest-below}
 use Rattle.grid.proofs.HeightLaws.{heights-long, depth-enough, reached-rows}
 use Rattle.grid.proofs.BoxTheorem.{placed}
-use Rattle.grid.proofs.TextLaws.{bytes, bytes-kept, Blank, blank}
+use Rattle.grid.proofs.TextLaws.{lengthOf, length-kept, Blank, blank}
 use Rattle.grid.proofs.Sheets.{firsts-of, never-14, Made}
 use Rattle.grid.proofs.SoundLaws.{Drawing, drawing, Held, held, boxes-are, sheet-sound, Own, own}
 
--- ---- a box's size, from the bytes of the texts on its ends and its lines
+-- ---- a box's size, from the characters of the texts on its ends and its lines
 abbrev innerBy : ℕ → ℕ → List Line → ℕ
 innerBy a b ls = max (max (128 * a) (128 * b)) (256 * largest (map lineLength ls)) + 128
 
@@ -53,8 +53,8 @@ heightBy a b ls =
     let e : ℕ = cond (eqb (innerBy a b ls) 128) 128 0 in
     e + cond (ltb 0 a) 256 0 + 128 + linesHeight ls + cond (ltb 0 b) 256 0 + e
 
-by-size : (f : ℕ → ℕ → List Line → ℕ) (n m : Node) → bytes (n .sources) ≡ bytes (m .sources) → bytes (n .sinks) ≡ bytes (m .sinks) → n .lines ≡ m .lines →
-    f (bytes (n .sources)) (bytes (n .sinks)) (n .lines) ≡ f (bytes (m .sources)) (bytes (m .sinks)) (m .lines)
+by-size : (f : ℕ → ℕ → List Line → ℕ) (n m : Node) → lengthOf (n .sources) ≡ lengthOf (m .sources) → lengthOf (n .sinks) ≡ lengthOf (m .sinks) → n .lines ≡ m .lines →
+    f (lengthOf (n .sources)) (lengthOf (n .sinks)) (n .lines) ≡ f (lengthOf (m .sources)) (lengthOf (m .sinks)) (m .lines)
 by-size f n m a b c = rw (a, b, c)
 
 -- ---- what is written in it
@@ -99,8 +99,8 @@ written-blanks (t ∷ ts) k = ap (keep (ltb 0 (t .len)) (given t)) (written-blan
 written-kept : (es fs : List Edge) → Begins (textsAt es) (textsAt fs) → writtenLines (textsAt fs) ≡ writtenLines (textsAt es)
 written-kept es fs b = ap writtenLines (b .texts) ∙ written-blanks (textsAt es) (b .blanks)
 
--- no bytes, nothing written
-written-none : (es : List Edge) → bytes es ≡ 0 → writtenLines (textsAt es) ≡ []
+-- no characters, nothing written
+written-none : (es : List Edge) → lengthOf es ≡ 0 → writtenLines (textsAt es) ≡ []
 written-none [] h = refl
 written-none (e ∷ es) h =
     let z : e .text .len ≡ 0 = omega arith in
@@ -121,11 +121,11 @@ module _ (s : List ℕ) (d : Dag) (laws : Laws s d) where
     abbrev old : Node
     old = nodeAt (givenGraph ps) k
 
-    sources-kept : bytes (new .sources) ≡ bytes (old .sources)
-    sources-kept = bytes-kept (old .sources) (new .sources) (laws .texts k h .sources)
+    sources-kept : lengthOf (new .sources) ≡ lengthOf (old .sources)
+    sources-kept = length-kept (old .sources) (new .sources) (laws .texts k h .sources)
 
-    sinks-kept : bytes (new .sinks) ≡ bytes (old .sinks)
-    sinks-kept = bytes-kept (old .sinks) (new .sinks) (laws .texts k h .sinks)
+    sinks-kept : lengthOf (new .sinks) ≡ lengthOf (old .sinks)
+    sinks-kept = length-kept (old .sinks) (new .sinks) (laws .texts k h .sinks)
 
     width-kept : boxWidth new ≡ boxWidth old
     width-kept = by-size (λ a b ls. innerBy a b ls + 256) new old sources-kept sinks-kept (laws .lines k h)
@@ -139,19 +139,19 @@ module _ (s : List ℕ) (d : Dag) (laws : Laws s d) where
 
   -- a node that a cut inserted
   module _ (k : ℕ) (h : length ps ≤ k) (l : k < length g) where
-    no-bytes : edgeBytes (nodeAt g k) ≡ 0
-    no-bytes =
+    no-characters : edgeLength (nodeAt g k) ≡ 0
+    no-characters =
         let n : length (givenGraph ps) ≡ length ps = length-map ps givenNode in
         let i : length (givenGraph ps) + (k - length (givenGraph ps)) ≡ k = omega arith in
-        subst (λ (j : ℕ). edgeBytes (nodeAt g j) ≡ 0) i
-        (subst (λ (x : Node). edgeBytes x ≡ 0) (getD-drop (length (givenGraph ps)) g (k - length (givenGraph ps)) bare)
+        subst (λ (j : ℕ). edgeLength (nodeAt g j) ≡ 0) i
+        (subst (λ (x : Node). edgeLength x ≡ 0) (getD-drop (length (givenGraph ps)) g (k - length (givenGraph ps)) bare)
         (all-in Blank (drop (length (givenGraph ps)) g) (k - length (givenGraph ps)) bare (omega (arith, length-drop (length (givenGraph ps)) g)) (blank s d laws)))
 
     labels-new : (q : ℕ) × (q < length ps) × (labelsFor (nodeAt g k) ≡ one (number q))
     labels-new =
         let n : Named (length ps) (nodeAt g k .lines) = laws .inserted k h l in
-        let a : writtenLines (textsAt (nodeAt g k .sources)) ≡ [] = written-none (nodeAt g k .sources) (omega (arith, no-bytes)) in
-        let b : writtenLines (textsAt (nodeAt g k .sinks)) ≡ [] = written-none (nodeAt g k .sinks) (omega (arith, no-bytes)) in
+        let a : writtenLines (textsAt (nodeAt g k .sources)) ≡ [] = written-none (nodeAt g k .sources) (omega (arith, no-characters)) in
+        let b : writtenLines (textsAt (nodeAt g k .sinks)) ≡ [] = written-none (nodeAt g k .sinks) (omega (arith, no-characters)) in
         (n .q, n .inside, rw (a, b, n .line))
 
 -- ---- the sheet of a cut graph

@@ -1,6 +1,7 @@
--- A label from the chart's bytes: what the code finds is the definition's, and its text lies within the chart or is one of the 32 fixed texts.
+-- A label from the chart's bytes: what the code finds is the definition's, its text lies within the chart or is one of the 32 fixed texts, and its width counts
+-- the text's characters.
 -- Assumes nothing.
-use Prim.Native.Nat.{ℕ, zero, suc, _+_, _-_, _/_, _≤_, _<_}
+use Prim.Native.Nat.{ℕ, zero, suc, _+_, _-_, _*_, _/_, _≤_, _<_}
 use native.Mathlib.Omega.{arith}
 use mathlib.Core.Path.{_≡_, refl, ap, sym, _∙_}
 use mathlib.Core.Bool.{Bool, true, false, cond, _&&_}
@@ -16,6 +17,7 @@ use Rattle.chart.specs.declared.Answer.{Answer}
 use Rattle.chart.specs.declared.Answer.the-variants.{Ready, Refused}
 use Rattle.chart.specs.Chart.{Part, End, Board}
 use Rattle.chart.specs.Chart.{Node as GivenNode}
+use Rattle.chart.specs.Text.{Texted, empty, charactersIn, ending, textOf}
 use Rattle.chart.specs.Accepted.{Fitting, Aimed, Formed, Accepted}
 use Rattle.chart.proofs.Accepts.{accepted}
 use Rattle.graph.specs.declared.Tables.{Tables}
@@ -38,14 +40,14 @@ use Rattle.grid.specs.Lists.{total}
 use Rattle.grid.specs.Record.{noBox}
 use Rattle.grid.specs.Heights.{heights}
 use Rattle.grid.specs.Columns.{columns}
-use Rattle.grid.specs.RenderNode.{Text, drawn, endTexts, textIf, lineTexts, textLength, endWidth, sourceGap, sinkGap, firstX, inputY, outputY, centerY, innerWidth, centerWidth}
+use Rattle.grid.specs.RenderNode.{Text, drawn, endTexts, textIf, lineTexts, lineLength, textLength, endWidth, sourceGap, sinkGap, firstX, inputY, outputY, centerY, innerWidth, centerWidth}
 use Rattle.grid.specs.RenderGrid.{Sheet, textMoved, boxOf, sheetOf, sheet}
 use Rattle.grid.specs.Curves.{noOutputs, boxRecord, recordOf}
 use Rattle.grid.specs.code.Rendered.{Seated}
 use Rattle.grid.specs.Sheeted.{Sheeted, ready, refusal, within, drawn as drawnAt, sheetOfDag, sheeted, outcomeOf}
 use Rattle.grid.specs.BoxTheorem.{BoxTheorem}
 use Rattle.grid.proofs.Sheets.{Made}
-use Rattle.grid.specs.Labels.{placeOf, labelAt, labelOf}
+use Rattle.grid.specs.Labels.{characterWidth, placeOf, labelAt, labelOf}
 use Rattle.grid.specs.code.Sited.{labelFrom, Sited}
 use Rattle.grid.specs.Labelled.{ready as labels, refusal as unlabelled, labelIn, labelOn, labelled, labelOutcomeOf}
 use Rattle.grid.proofs.LabelLaws.{label-sheet}
@@ -178,30 +180,54 @@ place-refused s x y o q k i n m e = go (sheeted s x y) (sym (ap (λ (u : Outcome
         cc
 
 -- ---- where a label's text lies
--- a part of the chart s, or one of the 32 fixed texts
+-- a text of the chart s: it lies within, has whole characters, and these are as many as its length says
+pub record Whole (s : List ℕ) (at len : ℕ) : Type 0 where
+  pub inside : ending len s at ≤ length s
+  pub texted : Texted (textOf s (record { at = at; len = len }))
+  pub counted : charactersIn (textOf s (record { at = at; len = len })) ≡ len
+
+fitting-whole : (s : List ℕ) (p : Part) → Fitting s p → Whole s (p .at) (p .len)
+fitting-whole s p h = record { inside = h .inside; texted = h .texted; counted = h .counted }
+
+no-whole : (s : List ℕ) → Whole s 0 0
+unfolding ending
+no-whole s = record { inside = omega arith; texted = empty; counted = refl }
+
+-- a text of the chart s, or one of the 32 fixed texts
 abbrev Held : List ℕ → Line → Type 0
-Held s (given p) = p .at + p .len ≤ length s
+Held s (given p) = Whole s (p .at) (p .len)
 Held s (number q) = q < 32
 
+-- how many characters a label has
+abbrev pub charactersOf : LabelPlace → ℕ
+charactersOf p = cond (p .fixed) (lineLength (number (p .number))) (p .len)
+
 pub record Lies (s : List ℕ) (p : LabelPlace) : Type 0 where
-  pub inside : p .fixed ≡ false → p .at + p .len ≤ length s
+  pub whole : p .fixed ≡ false → Whole s (p .at) (p .len)
   pub below : p .fixed ≡ true → p .number < 32
+  -- 'The rule for widths moves from bytes to characters'
+  pub wide : p .width ≡ characterWidth (p .size) * charactersOf p
 
 module _ (s : List ℕ) where
   abbrev Kept : Text → Type 0
-  Kept t = Held s (t .line)
+  Kept t = Held s (t .line) × (t .width ≡ characterWidth (t .size) * lineLength (t .line))
 
   -- an edge's text is drawn only if it is not empty
   abbrev Short : Part → Type 0
-  Short p = 0 < p .len → p .at + p .len ≤ length s
+  Short p = 0 < p .len → Whole s (p .at) (p .len)
 
-  place-lies : (x y size width : ℕ) (l : Line) → Held s l → Lies s (placeOf (record { x = x; y = y; size = size; width = width; line = l }))
-  place-lies x y size width (given p) h = record { inside = λ e. h; below = λ e. let z : _≡_ {A = ℕ} 0 1 = cc in absurd (omega arith) }
-  place-lies x y size width (number q) h = record { inside = λ e. let z : _≡_ {A = ℕ} 0 1 = cc in absurd (omega arith); below = λ e. h }
+  place-lies : (x y size width : ℕ) (l : Line) → Held s l → width ≡ characterWidth size * lineLength l → Lies s (placeOf (record { x = x; y = y; size = size; width = width; line = l }))
+  place-lies x y size width (given p) h w = record { whole = λ e. h; below = λ e. let z : _≡_ {A = ℕ} 0 1 = cc in absurd (omega arith); wide = w }
+  place-lies x y size width (number q) h w =
+      record {
+        whole = λ e. let z : _≡_ {A = ℕ} 0 1 = cc in absurd (omega arith);
+        below = λ e. h;
+        wide = w;
+      }
 
   label-lies : (ts : List Text) → All Kept ts → (i : ℕ) → Lies s (labelAt ts i)
-  label-lies [] a i = record { inside = λ e. omega arith; below = λ e. let z : _≡_ {A = ℕ} 0 1 = cc in absurd (omega arith) }
-  label-lies (t ∷ ts) a zero = place-lies (t .x) (t .y) (t .size) (t .width) (t .line) (a .0)
+  label-lies [] a i = record { whole = λ e. no-whole s; below = λ e. let z : _≡_ {A = ℕ} 0 1 = cc in absurd (omega arith); wide = refl }
+  label-lies (t ∷ ts) a zero = place-lies (t .x) (t .y) (t .size) (t .width) (t .line) (a .0 .0) (a .0 .1)
   label-lies (t ∷ ts) a (suc i) = label-lies ts (a .1) i
 
   if-kept : (b : Bool) (t : Text) (ts : List Text) → (b ≡ true → Kept t) → All Kept ts → All Kept (textIf b t ts)
@@ -212,11 +238,11 @@ module _ (s : List ℕ) where
   ends-kept gap x y [] a = tt
   ends-kept gap x y (e ∷ es) a =
       if-kept (ltb 0 (textLength e)) (record { x = x; y = y; size = 232; width = endWidth e; line = given (e .text) }) (endTexts gap (x + endWidth e + gap) y es)
-      (λ h. a .0 (ltb-true 0 (textLength e) h)) (ends-kept gap (x + endWidth e + gap) y es (a .1))
+      (λ h. (a .0 (ltb-true 0 (textLength e) h), refl)) (ends-kept gap (x + endWidth e + gap) y es (a .1))
 
   lines-kept : (x wy : ℕ) (ls : List Line) → All (Held s) ls → All Kept (lineTexts x wy ls)
   lines-kept x wy [] a = tt
-  lines-kept x wy (l ∷ ls) a = (a .0, lines-kept x (wy + 512 + 128) ls (a .1))
+  lines-kept x wy (l ∷ ls) a = ((a .0, refl), lines-kept x (wy + 512 + 128) ls (a .1))
 
   record Holds (n : Node) : Type 0 where
     sources : All Short (textsAt (n .sources))
@@ -238,24 +264,24 @@ module _ (s : List ℕ) where
   -- ---- of a given node, and of an inserted one
   blanks-short : (k : ℕ) → All Short (replicate k noText)
   blanks-short zero = tt
-  blanks-short (suc k) = (λ h. omega arith, blanks-short k)
+  blanks-short (suc k) = (λ h. absurd (omega arith), blanks-short k)
 
   begun-short : (old new : List Part) → Begins old new → All Short old → All Short new
   begun-short old new b a = rw (b .texts) (all-join Short old (replicate (b .blanks) noText) a (blanks-short (b .blanks)))
 
   none-short : (es : List Edge) → total (map textLength es) ≡ 0 → All Short (textsAt es)
   none-short [] e = tt
-  none-short (x ∷ es) e = (λ h. omega (arith, e), none-short es (omega (arith, e)))
+  none-short (x ∷ es) e = (λ h. absurd (omega (arith, e)), none-short es (omega (arith, e)))
 
   ends-short : (n : ℕ) (es : List End) → All (Aimed s n) es → All Short (textsAt (map unmarked es))
   ends-short n [] a = tt
-  ends-short n (e ∷ es) a = (λ h. a .0 .text .inside, ends-short n es (a .1))
+  ends-short n (e ∷ es) a = (λ h. fitting-whole s (e .text) (a .0 .text), ends-short n es (a .1))
 
   given-holds : (n : ℕ) (p : GivenNode) → Formed s n p → Holds (givenNode p)
   given-holds n p f =
       record {
         sources = ends-short n (p .sources) (f .sources);
-        lines = all-made (Fitting s) (Held s) given (λ t h. h .inside) (p .lines) (f .lines);
+        lines = all-made (Fitting s) (Held s) given (fitting-whole s) (p .lines) (f .lines);
         sinks = ends-short n (p .sinks) (f .sinks);
       }
 
@@ -323,7 +349,7 @@ module _ (s : List ℕ) where
         let cols : List ℕ = columns (shapeOf g) rows (firstColumns (shapeOf g)) in
         label-lies (getD (tabulate (boxOf g cols rows) 0 (length g)) k noOutputs .texts) (box-kept cols rows k (ltb k (length g)) refl) i
 
-  -- a label's text is a part of the chart, or one of the 32 fixed texts
+  -- a label's text is a text of the chart, or one of the 32 fixed texts
   pub labelled-lies : (x y k i : ℕ) (p : LabelPlace) → labelled s x y k i ≡ labels p → Lies s p
   unfolding labelled sheeted
   labelled-lies x y k i p e = go (graphed s) refl e

@@ -50,13 +50,13 @@ pub record SheetTheorem (n cuts : ℕ) (g : Graph) (s : Sheet) : Type 0 where
   pub right : (k : ℕ) → k < length (s .boxes) → box s k .x + box s k .width + 128 ≤ s .width
   pub bottom : (k : ℕ) → k < length (s .boxes) → box s k .y + box s k .height + 128 ≤ s .height
 
--- the bytes of the texts on a node's edges, and on all edges
-abbrev pub edgeBytes : Node → ℕ
-edgeBytes n = total (map textLength (n .sources)) + total (map textLength (n .sinks))
+-- the characters of the texts on a node's edges, and on all edges
+abbrev pub edgeLength : Node → ℕ
+edgeLength n = total (map textLength (n .sources)) + total (map textLength (n .sinks))
 
--- What the chart's limits give of the cut graph: at most 48 boxes; 64 texts on edges with 24 bytes each; at most 4 lines with at most 24 bytes each.
+-- What the chart's limits give of the cut graph: at most 48 boxes; 64 texts on edges with 24 characters each; at most 4 lines with at most 24 characters each.
 pub record Small (g : Graph) : Type 0 where
   pub nodes : length g ≤ 48
-  pub texts : total (map edgeBytes g) ≤ 64 * 24
+  pub texts : total (map edgeLength g) ≤ 64 * 24
   pub lines : (k : ℕ) → k < length g → length (nodeAt g k .lines) ≤ 4
-  pub bytes : (k : ℕ) → k < length g → largest (map lineLength (nodeAt g k .lines)) ≤ 24
+  pub narrow : (k : ℕ) → k < length g → largest (map lineLength (nodeAt g k .lines)) ≤ 24

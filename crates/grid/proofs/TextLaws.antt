@@ -28,33 +28,33 @@ use Rattle.graph.proofs.AimLaws.{all-in}
 use Rattle.graph.proofs.Gathers.{graph-laws}
 use Rattle.grid.specs.Lists.{largest, total}
 use Rattle.grid.specs.RenderNode.{lineLength, textLength}
-use Rattle.grid.proofs.SheetTheorem.{edgeBytes, Small}
+use Rattle.grid.proofs.SheetTheorem.{edgeLength, Small}
 
--- ---- a given node keeps its bytes
-abbrev pub bytes : List Edge → ℕ
-bytes es = total (map textLength es)
+-- ---- a given node keeps its characters
+abbrev pub lengthOf : List Edge → ℕ
+lengthOf es = total (map textLength es)
 
 abbrev lengths : List Part → ℕ
 lengths ts = total (map (λ (t : Part). t .len) ts)
 
-bytes-texts : (es : List Edge) → bytes es ≡ lengths (textsAt es)
-bytes-texts [] = refl
-bytes-texts (e ∷ es) = cc (bytes-texts es)
+length-texts : (es : List Edge) → lengthOf es ≡ lengths (textsAt es)
+length-texts [] = refl
+length-texts (e ∷ es) = cc (length-texts es)
 
 lengths-blanks : (ts : List Part) (k : ℕ) → lengths (ts ++ replicate k noText) ≡ lengths ts
 lengths-blanks [] zero = refl
 lengths-blanks [] (suc k) = omega (arith, lengths-blanks [] k)
 lengths-blanks (t ∷ ts) k = cc (lengths-blanks ts k)
 
-pub bytes-kept : (es fs : List Edge) → Begins (textsAt es) (textsAt fs) → bytes fs ≡ bytes es
-bytes-kept es fs b = bytes-texts fs ∙ ap lengths (b .texts) ∙ lengths-blanks (textsAt es) (b .blanks) ∙ sym (bytes-texts es)
+pub length-kept : (es fs : List Edge) → Begins (textsAt es) (textsAt fs) → lengthOf fs ≡ lengthOf es
+length-kept es fs b = length-texts fs ∙ ap lengths (b .texts) ∙ lengths-blanks (textsAt es) (b .blanks) ∙ sym (length-texts es)
 
-node-kept : (g h : Graph) (k : ℕ) → Texts g h k → edgeBytes (nodeAt h k) ≡ edgeBytes (nodeAt g k)
-node-kept g h k t = cc (bytes-kept (nodeAt g k .sources) (nodeAt h k .sources) (t .sources), bytes-kept (nodeAt g k .sinks) (nodeAt h k .sinks) (t .sinks))
+node-kept : (g h : Graph) (k : ℕ) → Texts g h k → edgeLength (nodeAt h k) ≡ edgeLength (nodeAt g k)
+node-kept g h k t = cc (length-kept (nodeAt g k .sources) (nodeAt h k .sources) (t .sources), length-kept (nodeAt g k .sinks) (nodeAt h k .sinks) (t .sinks))
 
 -- ---- an inserted node has none
 abbrev pub Blank : Node → Type 0
-Blank x = edgeBytes x ≡ 0
+Blank x = edgeLength x ≡ 0
 
 -- the two nodes of a cut
 abbrev two : ℕ → ℕ → ℕ → List Node
@@ -77,8 +77,8 @@ inserted-blank g =
     rw (cut-inserted n (w .graph) c s e hc hq l) (all-join Blank (drop n (w .graph)) (two c s (e .to)) b (refl, (refl, tt))))
     g refl (rw (drop-length g) tt) .keeps
 
--- h is the nodes of g, with as many bytes each, and inserted ones after them
-total-kept : (g h : Graph) → length g ≤ length h → ((k : ℕ) → k < length g → edgeBytes (nodeAt h k) ≡ edgeBytes (nodeAt g k)) → All Blank (drop (length g) h) → total (map edgeBytes h) ≡ total (map edgeBytes g)
+-- h is the nodes of g, with as many characters each, and inserted ones after them
+total-kept : (g h : Graph) → length g ≤ length h → ((k : ℕ) → k < length g → edgeLength (nodeAt h k) ≡ edgeLength (nodeAt g k)) → All Blank (drop (length g) h) → total (map edgeLength h) ≡ total (map edgeLength g)
 total-kept [] [] l f a = refl
 total-kept [] (y ∷ h) l f a = omega (arith, a .0, total-kept [] h (omega arith) (λ k m. absurd (not-suc-le-zero m)) (a .1))
 total-kept (x ∷ g) [] l f a = absurd (not-suc-le-zero l)
@@ -86,11 +86,11 @@ total-kept (x ∷ g) (y ∷ h) l f a = omega (arith, f 0 (omega arith), total-ke
 
 -- ---- the given nodes
 module _ (s : List ℕ) (n : ℕ) where
-  ends-few : (es : List End) → All (Aimed s n) es → bytes (map unmarked es) ≤ 24 * length es
+  ends-few : (es : List End) → All (Aimed s n) es → lengthOf (map unmarked es) ≤ 24 * length es
   ends-few [] a = omega arith
   ends-few (e ∷ es) a = omega (arith, a .0 .text .short, ends-few es (a .1))
 
-  given-few : (ps : Board) → All (Formed s n) ps → total (map edgeBytes (givenGraph ps)) ≤ 24 * endsOf ps
+  given-few : (ps : Board) → All (Formed s n) ps → total (map edgeLength (givenGraph ps)) ≤ 24 * endsOf ps
   given-few [] a = omega arith
   given-few (p ∷ ps) a = omega (arith, ends-few (p .sources) (a .0 .sources), ends-few (p .sinks) (a .0 .sinks), given-few ps (a .1))
 
@@ -126,8 +126,8 @@ module _ (s : List ℕ) (d : Dag) (laws : Laws s d) where
   pub blank : All Blank (drop (length old) (d .graph))
   blank = subst (λ (x : Dag). All Blank (drop (length old) (x .graph))) (sym (laws .walk)) (rw (← complete-length old) (inserted-blank (complete old)))
 
-  few-bytes : total (map edgeBytes (d .graph)) ≤ 64 * 24
-  few-bytes =
+  few-characters : total (map edgeLength (d .graph)) ≤ 64 * 24
+  few-characters =
       omega (
         arith,
         total-kept old (d .graph) (omega (arith, long, laws .nodes)) (λ k l. node-kept old (d .graph) k (laws .texts k (omega (arith, long)))) blank,
@@ -149,9 +149,9 @@ module _ (s : List ℕ) (d : Dag) (laws : Laws s d) where
   drawn-small =
       record {
         nodes = laws .boxes;
-        texts = few-bytes;
+        texts = few-characters;
         lines = λ k h. short k h (ltb k (length ps)) refl .few;
-        bytes = λ k h. short k h (ltb k (length ps)) refl .narrow;
+        narrow = λ k h. short k h (ltb k (length ps)) refl .narrow;
       }
 
 -- a graph that is drawn is small

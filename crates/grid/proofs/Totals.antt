@@ -12,7 +12,7 @@ use Rattle.graph.specs.Graph.{Line, Node, Graph, nodeAt}
 use Rattle.grid.specs.Lists.{largest, total}
 use Rattle.grid.specs.RenderNode.{lineLength, noWidth, written, linesHeight, boxWidth, boxHeight}
 use Rattle.grid.specs.RenderGrid.{extent, begins, reach, widths, tallnesses}
-use Rattle.grid.proofs.SheetTheorem.{edgeBytes}
+use Rattle.grid.proofs.SheetTheorem.{edgeLength}
 
 -- the sizes of the boxes before line c
 abbrev before : List ℕ → List ℕ → ℕ → ℕ
@@ -57,7 +57,7 @@ reach-le gap places sizes =
     omega (arith, begins-le gap places sizes (largest places), before-next places sizes (largest places), before-le places sizes (suc (largest places)))
 
 -- one box
-pub width-le : (n : Node) → largest (map lineLength (n .lines)) ≤ 24 → boxWidth n ≤ 6528 + 128 * edgeBytes n
+pub width-le : (n : Node) → largest (map lineLength (n .lines)) ≤ 24 → boxWidth n ≤ 6528 + 128 * edgeLength n
 width-le n h = omega arith
 
 lines-le : (ls : List Line) → length ls ≤ 4 → linesHeight ls ≤ 2432
@@ -70,7 +70,7 @@ height-le n h =
 
 -- all boxes
 pub widths-le : (g : Graph) → ((k : ℕ) → k < length g → largest (map lineLength (nodeAt g k .lines)) ≤ 24) →
-    total (widths g) ≤ 6528 * length g + 128 * total (map edgeBytes g)
+    total (widths g) ≤ 6528 * length g + 128 * total (map edgeLength g)
 widths-le [] h = omega arith
 widths-le (n ∷ g) h = omega (arith, width-le n (h 0 (omega arith)), widths-le g (λ k l. h (suc k) (omega arith)))
 

@@ -1,8 +1,9 @@
 -- 'A label is an entry of its box's `text`, numbered from 0 in that order.'
 -- Assumes nothing.
 use Prim.Native.Nat.{ℕ, zero, suc}
-use mathlib.Core.Bool.{true, false}
+use mathlib.Core.Bool.{true, false, cond}
 use mathlib.Core.List.{List, [], _∷_}
+use lib.Dec.{eqb}
 use lib.ListN.{getD}
 use Rattle.graph.specs.Graph.{Line, given, number}
 use Rattle.grid.specs.declared.LabelPlace.{LabelPlace}
@@ -12,6 +13,10 @@ use Rattle.grid.specs.Curves.{noOutputs}
 
 abbrev pub noLabel : LabelPlace
 noLabel = record { found = false; x = 0; y = 0; size = 0; width = 0; fixed = false; at = 0; len = 0; number = 0 }
+
+-- how wide each character of a label is, by the label's size
+abbrev pub characterWidth : ℕ → ℕ
+characterWidth size = cond (eqb size 232) 128 256
 
 -- a part of the chart, or the Debug text of a number, which is one of the fixed texts
 abbrev pub placeFor : ℕ → ℕ → ℕ → ℕ → Line → LabelPlace

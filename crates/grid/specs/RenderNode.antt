@@ -1,4 +1,4 @@
--- Document 01, module 8: a box, as `RenderNode::new` has it, with the constants of lib.rs and byte lengths. Its places are those before `translate`.
+-- Document 01, module 8: a box, as `RenderNode::new` has it, with the constants of lib.rs; lengths are in characters (document 02, L4). Its places are those before `translate`.
 -- Assumes nothing.
 use Prim.Native.Nat.{ℕ, _+_, _-_, _*_, _/_, max}
 use mathlib.Core.Option.{Option}
@@ -37,7 +37,7 @@ pub record Drawn : Type 0 where
   pub inputs : List Input
   pub outputs : List Output
 
--- a line's length in bytes; the Debug text of a node number is `#` and the number, which is below 32 where it names a given node
+-- a line's length in characters; the Debug text of a node number is `#` and the number, which is below 32 where it names a given node
 abbrev pub lineLength : Line → ℕ
 lineLength (given p) = p .len
 lineLength (number q) = cond (ltb q 10) 2 3

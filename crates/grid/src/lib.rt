@@ -76,7 +76,7 @@ pub struct BoxAnswer {
     pub place: BoxRecord,
 }
 
-// The place of a label, its size and its width; its text is the part of the chart at `at`, or where `fixed`, the fixed text of the number.
+// The place of a label, its size and its width; its text is the `len` characters of the chart at `at`, or where `fixed`, the fixed text of the number.
 pub struct LabelPlace {
     pub found: bool,
     pub x: u32,

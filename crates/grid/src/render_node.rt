@@ -14,13 +14,13 @@ use chart::Lines;
 use graph::Table;
 use graph::Tables;
 
-// The ends that a node has on one side: the bytes of their texts together, and how many they are.
+// The ends that a node has on one side: the characters of their texts together, and how many they are.
 pub struct Ends {
-    pub bytes: u16,
+    pub len: u16,
     pub count: u8,
 }
 
-// The lines of a node: the bytes of the longest, and how many they are.
+// The lines of a node: the characters of the longest, and how many they are.
 pub struct Center {
     pub longest: u8,
     pub count: u8,
@@ -62,19 +62,19 @@ pub fn ends_of(t: Table, p: u8) -> Ends
     requires { ⌜ t .count ≤ 88 ⌝ }
     ensures { λ r. ⌜ r ≡ endsOf (owned p (itemsOf t)) ⌝ }
 {
-    let mut bytes: u16 = 0;
+    let mut len: u16 = 0;
     let mut count: u8 = 0;
     let mut k = t.count as u32;
     while 0 < k {
         k -= 1;
         let e = t.items[k as usize];
         if e.owner == p {
-            bytes += e.len as u16;
+            len += e.len as u16;
             count += 1;
         }
     }
     Ends {
-        bytes: bytes,
+        len: len,
         count: count,
     }
 }
@@ -153,10 +153,10 @@ fn lines_height(count: u8) -> u32
 }
 
 // The height of the ends' texts.
-fn text_height(bytes: u16) -> u32
-    ensures { λ r. ⌜ r ≡ textFrom bytes ⌝ }
+fn text_height(len: u16) -> u32
+    ensures { λ r. ⌜ r ≡ textFrom len ⌝ }
 {
-    if 0 < bytes { 256 } else { 0 }
+    if 0 < len { 256 } else { 0 }
 }
 
 // PAD, where the node is empty.
@@ -170,7 +170,7 @@ fn empty_height(inner: u32) -> u32
 fn inner_width(a: Ends, c: Center, b: Ends) -> u32
     ensures { λ r. ⌜ r ≡ innerFrom a c b ⌝ }
 {
-    let wide = larger(128 * (a.bytes as u32), 128 * (b.bytes as u32));
+    let wide = larger(128 * (a.len as u32), 128 * (b.len as u32));
     larger(wide, 256 * (c.longest as u32)) + 128
 }
 
@@ -180,10 +180,10 @@ pub fn render_node(a: Ends, c: Center, b: Ends) -> RenderNode
 {
     let inner = inner_width(a, c, b);
     let empty = empty_height(inner);
-    let source_gap = separation(inner - 128 * (a.bytes as u32), a.count);
-    let sink_gap = separation(inner - 128 * (b.bytes as u32), b.count);
-    let cy = empty + text_height(a.bytes) + 128;
-    let y = cy + lines_height(c.count) + text_height(b.bytes);
+    let source_gap = separation(inner - 128 * (a.len as u32), a.count);
+    let sink_gap = separation(inner - 128 * (b.len as u32), b.count);
+    let cy = empty + text_height(a.len) + 128;
+    let y = cy + lines_height(c.count) + text_height(b.len);
     let inputs = Run {
         x: first_x(source_gap, a.count),
         y: empty,

@@ -96,11 +96,12 @@ module _ (m n : ℕ) where
 pub part-is : (s t : List ℕ) (l : Labelled) (q : LabelSpan) → IsLabelSpan s t l q → (r : PartResult) → r ≡ partResult q → IsPartResult s t l r
 part-is s t l q i r e =
     let a = labelAnswerOf t l .answer in
-    let p = labelPartOf t l in
-    let whole : r ≡ partResult (labelSpanOf t l) = e ∙ ap partResult (i .whole) in
+    let p = labelPartOf s t l in
+    let whole : r ≡ partResult (labelSpanOf s t l) = e ∙ ap partResult (i .whole) in
     subst (IsPartResult s t l) (sym whole)
     (record {
       whole = refl;
-      in-chart = λ z. span-in-chart (length s) (length t) a p (i .within) z;
-      in-table = λ z. span-in-table (length s) (length t) a p (i .within) z;
+      in-chart = λ z. span-in-chart (length s) (length t) a p (i .text .within) z;
+      in-table = λ z. span-in-table (length s) (length t) a p (i .text .within) z;
+      text = i .text;
     })

@@ -153,10 +153,10 @@ span-answer : (a : Answer) (p : Place) → spanIn a p .answer ≡ a
 span-answer a (inChart b e) = refl
 span-answer a (inTable b e) = refl
 
-pub part-zero : (t s : List ℕ) (x y k i : ℕ) → partResult (labelSpanOf t (labelled s x y k i)) .refused ≡ 0 → labelSpanOf t (labelled s x y k i) .answer ≡ Ready
+pub part-zero : (t s : List ℕ) (x y k i : ℕ) → partResult (labelSpanOf s t (labelled s x y k i)) .refused ≡ 0 → labelSpanOf s t (labelled s x y k i) .answer ≡ Ready
 part-zero t s x y k i e =
     let l = labelled s x y k i in
-    let same = span-answer (labelAnswerOf t l .answer) (labelPartOf t l) in
+    let same = span-answer (labelAnswerOf t l .answer) (labelPartOf s t l) in
     same ∙ label-zero t s x y k i (sym (ap (λ (a : Answer). numbersOf a .first) same) ∙ e)
 
 -- ---- segments, of a sheet (14) or of a path text (17 to 19); then 15, 16

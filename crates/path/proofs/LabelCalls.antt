@@ -1,6 +1,6 @@
--- The label calls: the table is judged after 1 to 14, and a label's part lies within the chart or the table.
+-- The label calls: the table is judged after 1 to 14; a label's part lies within the chart or the table, and its characters are the label's width.
 -- Assumes nothing.
-use Prim.Native.Nat.{ℕ, _+_, _-_, _≤_, _<_}
+use Prim.Native.Nat.{ℕ, _+_, _-_, _*_, _≤_, _<_}
 use native.Mathlib.Omega.{arith}
 use mathlib.Core.Path.{_≡_, refl, sym, ap, _∙_, subst}
 use mathlib.Core.Bool.{Bool, true, false, cond}
@@ -11,16 +11,18 @@ use borrow.Author.Tests.{le-leb, ltb-true, ltb-false}
 use Rattle.laws.specs.Bytes.{same}
 use Rattle.laws.proofs.Lists.{same-true}
 use Rattle.chart.specs.declared.Answer.the-variants.{Ready, Refused}
+use Rattle.chart.specs.Text.{Texted, empty, charactersIn, ending}
+use Rattle.chart.proofs.Gives.{ending-from}
 use Rattle.grid.specs.declared.LabelPlace.{LabelPlace}
 use Rattle.grid.specs.declared.LabelOutcome.{LabelOutcome}
-use Rattle.grid.specs.Labels.{noLabel}
+use Rattle.grid.specs.Labels.{characterWidth, noLabel}
 use Rattle.grid.specs.Labelled.{Labelled, ready, refusal, labelled, labelOutcomeOf}
 use Rattle.grid.proofs.LabelPlaces.{Lies, labelled-lies}
 use Rattle.path.specs.declared.label.Span.{Span}
 use denote.Ref.{RefT}
 use Rattle.path.specs.declared.LabelSpan.{LabelSpan}
-use Rattle.path.specs.Label.{Place, chart, table, partAt, Within, IsAt, standIn, standInsTo, standIns, standInSpan, tabled, answerIn, placeIn, labelAnswerOf, labelPartOf, IsLabelPart, spanIn, labelSpanOf, IsLabelSpan}
-use Rattle.path.proofs.Labels.{stand-ins-long, stand-in-low, stand-in-high}
+use Rattle.path.specs.Label.{Place, chart, table, partAt, Within, textAt, IsAt, standIn, standInsTo, standIns, standInSpan, tabled, answerIn, placeIn, labelAnswerOf, labelPartOf, LabelText, IsLabelPart, spanIn, labelSpanOf, IsLabelSpan}
+use Rattle.path.proofs.Labels.{stand-ins-long, stand-in-reads, stand-in-low, stand-in-high, stand-in-texted, stand-in-counted}
 
 -- ---- the table
 pub tabled-found : (t : List ℕ) (l : Labelled) (r : LabelOutcome) → r ≡ labelOutcomeOf l → r .answer ≡ Ready → same t standIns ≡ true →
@@ -77,13 +79,13 @@ module _ (s t : List ℕ) (x y k i : ℕ) (r : LabelOutcome) (e : r ≡ labelOut
   lies : Lies s (r .place)
   lies = labelled-lies s x y k i (r .place) (found .0)
 
-  part-is : labelPartOf t (labelled s x y k i) ≡ placeIn (ready (r .place))
+  part-is : labelPartOf s t (labelled s x y k i) ≡ placeIn s (ready (r .place))
   part-is = rw (found .0, found .1)
 
   pub number-small : r .place .fixed ≡ true → r .place .number < 32
   number-small = lies .below
 
-  pub fixed-part : r .place .fixed ≡ true → (p : Span) → p ≡ standInSpan (r .place .number) → (m : ℕ) → partAt true (p .at) (p .end) m (length t) ≡ labelPartOf t (labelled s x y k i)
+  pub fixed-part : r .place .fixed ≡ true → (p : Span) → p ≡ standInSpan (r .place .number) → (m : ℕ) → partAt true (p .at) (p .end) m (length t) ≡ labelPartOf s t (labelled s x y k i)
   fixed-part f p h m =
       let q : ℕ = r .place .number in
       let long : length t ≡ 86 = ap length (same-true t standIns (found .1)) ∙ stand-ins-long in
@@ -94,19 +96,19 @@ module _ (s t : List ℕ) (x y k i : ℕ) (r : LabelOutcome) (e : r ≡ labelOut
       let v : leb (p .end) (length t) ≡ true = le-leb (p .end) (length t) (omega (arith, end, w, long)) in
       let one : partAt true (p .at) (p .end) m (length t) ≡ table (p .at) (p .end) = rw (u, v) in
       let two : table (p .at) (p .end) ≡ table (standInSpan q .at) (standInSpan q .end) = ap (λ (z : Span). table (z .at) (z .end)) h in
-      let three : placeIn (ready (r .place)) ≡ table (standInSpan q .at) (standInSpan q .end) = rw f in
+      let three : placeIn s (ready (r .place)) ≡ table (standInSpan q .at) (standInSpan q .end) = rw f in
       one ∙ two ∙ sym (part-is ∙ three)
 
-  pub given-part : r .place .fixed ≡ false → (n : ℕ) → partAt false (r .place .at) (r .place .at + r .place .len) (length s) n ≡ labelPartOf t (labelled s x y k i)
-  given-part f n =
-      let u : leb (r .place .at) (r .place .at + r .place .len) ≡ true = le-leb (r .place .at) (r .place .at + r .place .len) (omega arith) in
-      let v : leb (r .place .at + r .place .len) (length s) ≡ true = le-leb (r .place .at + r .place .len) (length s) (lies .inside f) in
-      let one : partAt false (r .place .at) (r .place .at + r .place .len) (length s) n ≡ chart (r .place .at) (r .place .at + r .place .len) = rw (u, v) in
-      let three : placeIn (ready (r .place)) ≡ chart (r .place .at) (r .place .at + r .place .len) = rw f in
+  pub given-part : r .place .fixed ≡ false → (end : ℕ) → end ≡ ending (r .place .len) s (r .place .at) → (n : ℕ) → partAt false (r .place .at) end (length s) n ≡ labelPartOf s t (labelled s x y k i)
+  given-part f end h n =
+      let u : leb (r .place .at) end ≡ true = le-leb (r .place .at) end (omega (arith, ending-from (r .place .len) s (r .place .at))) in
+      let v : leb end (length s) ≡ true = le-leb end (length s) (omega (arith, lies .whole f .inside)) in
+      let one : partAt false (r .place .at) end (length s) n ≡ chart (r .place .at) end = rw (u, v) in
+      let three : placeIn s (ready (r .place)) ≡ chart (r .place .at) end = rw (f, h) in
       one ∙ sym (part-is ∙ three)
 
   -- ---- the same part as a span
-  span-is : labelSpanOf t (labelled s x y k i) ≡ spanIn Ready (placeIn (ready (r .place)))
+  span-is : labelSpanOf s t (labelled s x y k i) ≡ spanIn Ready (placeIn s (ready (r .place)))
   span-is = rw (found .0, found .1)
 
   pub span-fits : r .place .fixed ≡ true → (p : Span) → p ≡ standInSpan (r .place .number) → (p .at ≤ p .end) × (p .end ≤ 86)
@@ -117,48 +119,81 @@ module _ (s t : List ℕ) (x y k i : ℕ) (r : LabelOutcome) (e : r ≡ labelOut
       (omega (arith, at, end), omega (arith, end, w))
 
   pub fixed-span : r .place .fixed ≡ true → (p : Span) → p ≡ standInSpan (r .place .number) →
-      record { answer = Ready; fixed = true; at = p .at; len = p .end - p .at } ≡ labelSpanOf t (labelled s x y k i)
+      record { answer = Ready; fixed = true; at = p .at; len = p .end - p .at } ≡ labelSpanOf s t (labelled s x y k i)
   fixed-span f p h = rw (span-is, f, h)
 
-  pub given-span : r .place .fixed ≡ false → record { answer = Ready; fixed = false; at = r .place .at; len = r .place .len } ≡ labelSpanOf t (labelled s x y k i)
-  given-span f = let n : r .place .at + r .place .len - r .place .at ≡ r .place .len = omega arith in rw (span-is, f, n)
+  pub given-span : r .place .fixed ≡ false → (end : ℕ) → end ≡ ending (r .place .len) s (r .place .at) →
+      record { answer = Ready; fixed = false; at = r .place .at; len = end - r .place .at } ≡ labelSpanOf s t (labelled s x y k i)
+  given-span f end h = rw (span-is, f, h)
 
 -- refused: the empty part at the chart's start
-pub refused-part : (v : Labelled) (r : LabelOutcome) (a b m n : ℕ) → r ≡ labelOutcomeOf v → r .answer ≡ Refused a b → partAt false 0 0 m n ≡ placeIn v
-refused-part (ready p) r a b m n e f =
+pub refused-part : (s : List ℕ) (v : Labelled) (r : LabelOutcome) (a b m n : ℕ) → r ≡ labelOutcomeOf v → r .answer ≡ Refused a b → partAt false 0 0 m n ≡ placeIn s v
+refused-part s (ready p) r a b m n e f =
     let g : r .answer ≡ Ready = ap (λ (u : LabelOutcome). u .answer) e in
     let z : _≡_ {A = ℕ} 0 1 = cc in absurd (omega arith)
-refused-part (refusal i j) r a b m n e f = rw (le-leb 0 m (omega arith))
+refused-part s (refusal i j) r a b m n e f = rw (le-leb 0 m (omega arith))
 
-pub refused-span : (v : Labelled) (r : LabelOutcome) (a b : ℕ) → r ≡ labelOutcomeOf v → r .answer ≡ Refused a b →
-    record { answer = Refused a b; fixed = false; at = 0; len = 0 } ≡ spanIn (answerIn v .answer) (placeIn v)
-refused-span (ready p) r a b e f =
+pub refused-span : (s : List ℕ) (v : Labelled) (r : LabelOutcome) (a b : ℕ) → r ≡ labelOutcomeOf v → r .answer ≡ Refused a b →
+    record { answer = Refused a b; fixed = false; at = 0; len = 0 } ≡ spanIn (answerIn v .answer) (placeIn s v)
+refused-span s (ready p) r a b e f =
     let g : r .answer ≡ Ready = ap (λ (u : LabelOutcome). u .answer) e in
     let z : _≡_ {A = ℕ} 0 1 = cc in absurd (omega arith)
-refused-span (refusal i j) r a b e f =
+refused-span s (refusal i j) r a b e f =
     let g : Refused a b ≡ Refused i j = sym f ∙ ap (λ (u : LabelOutcome). u .answer) e in
     rw g
 
--- ---- the part lies within the chart or the table
-place-within : (s t : List ℕ) (p : LabelPlace) → Lies s p → same t standIns ≡ true → (b : Bool) → p .fixed ≡ b → Within (length s) (length t) (placeIn (ready p))
-place-within s t p l f true e =
+-- ---- the part: within the chart or the table, text, and as wide as the label
+-- what `LabelText` says, of a label whose table is judged
+record Stands (s t : List ℕ) (v : Labelled) : Type 0 where
+  within : Within (length s) (length t) (placeIn s v)
+  texted : Texted (textAt s t (placeIn s v))
+  wide : answerIn v .width ≡ characterWidth (answerIn v .size) * charactersIn (textAt s t (placeIn s v))
+
+refused-stands : (s t : List ℕ) (i j : ℕ) → Stands s t (refusal i j)
+refused-stands s t i j = record { within = (omega arith, omega arith); texted = empty; wide = refl }
+
+-- one of the fixed texts
+fixed-stands : (s t : List ℕ) (p : LabelPlace) → Lies s p → same t standIns ≡ true → p .fixed ≡ true → Stands s t (ready p)
+fixed-stands s t p l f e =
     let q : ℕ = p .number in
+    let is : t ≡ standIns = same-true t standIns f in
     let w : length (standInsTo q) + length (standIn q) ≤ 86 = span-within q (l .below e) (ltb q 10) refl in
-    let long : length t ≡ 86 = ap length (same-true t standIns f) ∙ stand-ins-long in
-    rw e (omega arith, omega arith)
-place-within s t p l f false e = let h : p .at + p .len ≤ length s = l .inside e in rw e (omega arith, h)
+    let long : length t ≡ 86 = ap length is ∙ stand-ins-long in
+    let len : length (standInsTo q) + length (standIn q) - length (standInsTo q) ≡ length (standIn q) = omega arith in
+    let reads : textAt s t (placeIn s (ready p)) ≡ standIn q = rw (e, len, is) (stand-in-reads q (l .below e)) in
+    record {
+      within = rw e (omega arith, omega arith);
+      texted = rw reads (stand-in-texted q (l .below e));
+      wide = rw (reads, stand-in-counted q (l .below e)) (l .wide ∙ rw e);
+    }
 
-within-by : (s t : List ℕ) (v : Labelled) → ((p : LabelPlace) → v ≡ ready p → Lies s p) → (b : Bool) → same t standIns ≡ b → Within (length s) (length t) (labelPartOf t v)
-within-by s t (ready p) h true e = rw e (place-within s t p (h p refl) e (p .fixed) refl)
-within-by s t (ready p) h false e = rw e (omega arith, omega arith)
-within-by s t (refusal i j) h b e = (omega arith, omega arith)
+-- a text of the chart
+given-stands : (s t : List ℕ) (p : LabelPlace) → Lies s p → p .fixed ≡ false → Stands s t (ready p)
+given-stands s t p l e =
+    let h = l .whole e in
+    record {
+      within = rw e (ending-from (p .len) s (p .at), h .inside);
+      texted = rw e (h .texted);
+      wide = rw (e, h .counted) (l .wide ∙ rw e);
+    }
 
-part-within : (s t : List ℕ) (x y k i : ℕ) → Within (length s) (length t) (labelPartOf t (labelled s x y k i))
-part-within s t x y k i = within-by s t (labelled s x y k i) (λ p e. labelled-lies s x y k i p e) (same t standIns) refl
+place-stands : (s t : List ℕ) (p : LabelPlace) → Lies s p → same t standIns ≡ true → (b : Bool) → p .fixed ≡ b → Stands s t (ready p)
+place-stands s t p l f true e = fixed-stands s t p l f e
+place-stands s t p l f false e = given-stands s t p l e
 
-pub is-label-part : (s t : RefT (List ℕ)) (x y k i : ℕ) (r : RefT (List ℕ)) → IsAt (labelPartOf (t .now) (labelled (s .now) x y k i)) s t r →
+label-stands : (s t : List ℕ) (v : Labelled) → ((p : LabelPlace) → v ≡ ready p → Lies s p) → (b : Bool) → same t standIns ≡ b → Stands s t (tabled t v)
+label-stands s t (ready p) h true e = rw e (place-stands s t p (h p refl) e (p .fixed) refl)
+label-stands s t (ready p) h false e = rw e (refused-stands s t 15 0)
+label-stands s t (refusal i j) h b e = refused-stands s t i j
+
+label-text : (s t : List ℕ) (x y k i : ℕ) → LabelText s t (labelled s x y k i)
+label-text s t x y k i =
+    let h = label-stands s t (labelled s x y k i) (λ p e. labelled-lies s x y k i p e) (same t standIns) refl in
+    record { within = h .within; texted = h .texted; wide = h .wide }
+
+pub is-label-part : (s t : RefT (List ℕ)) (x y k i : ℕ) (r : RefT (List ℕ)) → IsAt (labelPartOf (s .now) (t .now) (labelled (s .now) x y k i)) s t r →
     IsLabelPart s t (labelled (s .now) x y k i) r
-is-label-part s t x y k i r a = record { is = a; within = part-within (s .now) (t .now) x y k i }
+is-label-part s t x y k i r a = record { is = a; text = label-text (s .now) (t .now) x y k i }
 
-pub is-label-span : (s t : List ℕ) (x y k i : ℕ) (r : LabelSpan) → r ≡ labelSpanOf t (labelled s x y k i) → IsLabelSpan s t (labelled s x y k i) r
-is-label-span s t x y k i r e = record { whole = e; within = part-within s t x y k i }
+pub is-label-span : (s t : List ℕ) (x y k i : ℕ) (r : LabelSpan) → r ≡ labelSpanOf s t (labelled s x y k i) → IsLabelSpan s t (labelled s x y k i) r
+is-label-span s t x y k i r e = record { whole = e; text = label-text s t x y k i }

@@ -1,6 +1,7 @@
 -- A label's text: 'a part of the chart or of the stand-in table, not a copy; that table, lent beside the chart, is the fixed texts `#0` to `#31`, end to end'.
+-- A part is of bytes, both bytes of a degree sign among them.
 -- Assumes nothing.
-use Prim.Native.Nat.{ℕ, zero, suc, _+_, _-_, _≤_}
+use Prim.Native.Nat.{ℕ, zero, suc, _+_, _-_, _*_, _≤_}
 use mathlib.Core.Path.{_≡_}
 use mathlib.Core.Bool.{Bool, true, false, cond, _&&_}
 use mathlib.Core.List.{List, [], _∷_, _++_}
@@ -10,6 +11,8 @@ use denote.Ref.{RefT}
 use Rattle.laws.specs.Bytes.{same}
 use Rattle.chart.specs.declared.Answer.{Answer}
 use Rattle.chart.specs.declared.Answer.the-variants.{Ready, Refused}
+use Rattle.chart.specs.Text.{Texted, charactersIn, ending}
+use Rattle.grid.specs.Labels.{characterWidth}
 use Rattle.grid.specs.Labelled.{Labelled, ready, refusal}
 use Rattle.path.specs.declared.label.Span.{Span}
 use Rattle.path.specs.declared.LabelAnswer.{LabelAnswer}
@@ -32,6 +35,11 @@ partAt fixed a e m n = cond (leb a e && leb e (cond fixed n m)) (cond fixed (tab
 abbrev pub Within : ℕ → ℕ → Place → Type 0
 Within m n (chart a e) = (a ≤ e) × (e ≤ m)
 Within m n (table a e) = (a ≤ e) × (e ≤ n)
+
+-- what stands at a place of the chart s or of the table t
+abbrev pub textAt : List ℕ → List ℕ → Place → List ℕ
+textAt s t (chart a e) = take (e - a) (drop a s)
+textAt s t (table a e) = take (e - a) (drop a t)
 
 -- r is the text at a place of the two slices
 abbrev pub IsAt : Place → RefT (List ℕ) → RefT (List ℕ) → RefT (List ℕ) → Type 0
@@ -70,29 +78,38 @@ answerIn (refusal number second) = record { answer = Refused number second; x = 
 abbrev pub labelAnswerOf : List ℕ → Labelled → LabelAnswer
 labelAnswerOf t l = answerIn (tabled t l)
 
--- 'the other the part, which if refused is the empty one at the chart's start'
-abbrev pub placeIn : Labelled → Place
-placeIn (ready p) = cond (p .fixed) (table (standInSpan (p .number) .at) (standInSpan (p .number) .end)) (chart (p .at) (p .at + p .len))
-placeIn (refusal number second) = chart 0 0
+-- 'the other the part, which if refused is the empty one at the chart's start'; in the chart s it ends after the label's characters
+abbrev pub placeIn : List ℕ → Labelled → Place
+placeIn s (ready p) = cond (p .fixed) (table (standInSpan (p .number) .at) (standInSpan (p .number) .end)) (chart (p .at) (ending (p .len) s (p .at)))
+placeIn s (refusal number second) = chart 0 0
 
-abbrev pub labelPartOf : List ℕ → Labelled → Place
-labelPartOf t l = placeIn (tabled t l)
+abbrev pub labelPartOf : List ℕ → List ℕ → Labelled → Place
+labelPartOf s t l = placeIn s (tabled t l)
 
--- `label_part`, where the chart s and the table t are lent: the part, which lies within one of them
+-- what is so of the part, of every label and where it is refused
+pub record LabelText (s t : List ℕ) (l : Labelled) : Type 0 where
+  -- it lies within the chart or the table
+  pub within : Within (length s) (length t) (labelPartOf s t l)
+  -- it is text bytes and degree signs, both bytes of each
+  pub texted : Texted (textAt s t (labelPartOf s t l))
+  -- 'The rule for widths moves from bytes to characters': the label is as wide as these
+  pub wide : labelAnswerOf t l .width ≡ characterWidth (labelAnswerOf t l .size) * charactersIn (textAt s t (labelPartOf s t l))
+
+-- `label_part`, where the chart s and the table t are lent: the part itself
 pub record IsLabelPart (s t : RefT (List ℕ)) (l : Labelled) (r : RefT (List ℕ)) : Type 0 where
-  pub is : IsAt (labelPartOf (t .now) l) s t r
-  pub within : Within (length (s .now)) (length (t .now)) (labelPartOf (t .now) l)
+  pub is : IsAt (labelPartOf (s .now) (t .now) l) s t r
+  pub text : LabelText (s .now) (t .now) l
 
--- the same part in numbers, for a caller that can't be handed a part: where it begins in the chart or in the table, and how long it is
+-- the same part in numbers, for a caller that can't be handed a part: where it begins in the chart or in the table, and how many bytes it has
 abbrev pub spanIn : Answer → Place → LabelSpan
 spanIn a (chart b e) = record { answer = a; fixed = false; at = b; len = e - b }
 spanIn a (table b e) = record { answer = a; fixed = true; at = b; len = e - b }
 
 -- the answer of `label_place`, and the part of `label_part`
-abbrev pub labelSpanOf : List ℕ → Labelled → LabelSpan
-labelSpanOf t l = spanIn (labelAnswerOf t l .answer) (labelPartOf t l)
+abbrev pub labelSpanOf : List ℕ → List ℕ → Labelled → LabelSpan
+labelSpanOf s t l = spanIn (labelAnswerOf t l .answer) (labelPartOf s t l)
 
--- `label_span`: that part, which lies within the chart s or the table t
+-- `label_span`
 pub record IsLabelSpan (s t : List ℕ) (l : Labelled) (r : LabelSpan) : Type 0 where
-  pub whole : r ≡ labelSpanOf t l
-  pub within : Within (length s) (length t) (labelPartOf t l)
+  pub whole : r ≡ labelSpanOf s t l
+  pub text : LabelText s t l

@@ -1,16 +1,16 @@
 -- Labels through the whole definition, from the chart's bytes: what both calls answer. One table, one computed test. The numbers are the Rust's.
 -- Assumes nothing.
-use Prim.Native.Nat.{ℕ, _+_, _-_}
+use Prim.Native.Nat.{ℕ, _+_}
 use Prim.Native.String.{String}
 use mathlib.Core.Path.{_≡_, refl}
 use mathlib.Core.Bool.{Bool, true, cond, _&&_}
 use mathlib.Core.List.{List, [], _∷_}
-use lib.ListN.{take, drop}
 use Rattle.laws.specs.Bytes.{ascii, hex, allOf, same}
 use Rattle.laws.specs.Each.{each}
 use Rattle.chart.specs.declared.Answer.{Answer}
 use Rattle.chart.specs.declared.Answer.the-variants.{Ready, Refused}
 use Rattle.chart.specs.Chart.{chart as chartOf}
+use Rattle.chart.specs.Text.{ending}
 use Rattle.graph.specs.Shape.{shapeOf}
 use Rattle.graph.specs.Completion.{complete}
 use Rattle.graph.specs.Cutting.{reached, cutting}
@@ -27,7 +27,7 @@ use Rattle.grid.specs.Labelled.{Labelled, labelled}
 use Rattle.path.specs.declared.LabelAnswer.{LabelAnswer}
 use Rattle.path.specs.declared.LabelSpan.{LabelSpan}
 use Rattle.path.specs.Number.{digits}
-use Rattle.path.specs.Label.{Place, chart, table, standInsTo, standIns, labelAnswerOf, labelPartOf, labelSpanOf}
+use Rattle.path.specs.Label.{Place, chart, table, textAt, standInsTo, standIns, labelAnswerOf, labelPartOf, labelSpanOf}
 
 -- 0 0 or the refusal's two numbers, then place, size and width
 abbrev numbersBy : Answer → List ℕ → List ℕ
@@ -46,22 +46,16 @@ spot (table a e) = 1 ∷ a ∷ e ∷ []
 abbrev spanSpot : LabelSpan → List ℕ
 spanSpot r = cond (r .fixed) 1 0 ∷ r .at ∷ (r .at + r .len) ∷ []
 
--- what stands there
-abbrev textAt : List ℕ → List ℕ → Place → List ℕ
-textAt s t (chart a e) = take (e - a) (drop a s)
-textAt s t (table a e) = take (e - a) (drop a t)
-
 data Case : Type 0 where
   -- the chart in hexadecimal, the origin, the table, the box and the label; the answer's numbers, the part and its text
   is : String → ℕ → ℕ → String → ℕ → ℕ → List ℕ → List ℕ → String → Case
+  -- at origin 0 0 and with the stand-in table; the text in hexadecimal
+  sign : String → ℕ → ℕ → List ℕ → List ℕ → String → Case
 
-abbrev agree : List ℕ → List ℕ → Labelled → List ℕ → List ℕ → String → Bool
+abbrev agree : List ℕ → List ℕ → Labelled → List ℕ → List ℕ → List ℕ → Bool
 agree s t l ns ps w =
     same (numbers (labelAnswerOf t l)) ns
-    && (same (spot (labelPartOf t l)) ps && (same (spanSpot (labelSpanOf t l)) ps && same (textAt s t (labelPartOf t l)) (ascii w)))
-
-holds : Case → Bool
-holds (is s x y t k i ns ps w) = agree (hex s) (ascii t) (labelled (hex s) x y k i) ns ps w
+    && (same (spot (labelPartOf s t l)) ps && (same (spanSpot (labelSpanOf s t l)) ps && same (textAt s t (labelPartOf s t l)) w))
 
 -- the stand-in table; with one byte changed; one byte shorter
 abbrev fixed : String
@@ -73,6 +67,10 @@ wrong = "#0#1#2#3#4#5#6#7#8#9#10#11#12#13#14#15#16#17#18#19#20#21#22#23#24#25#26
 abbrev short : String
 short = "#0#1#2#3#4#5#6#7#8#9#10#11#12#13#14#15#16#17#18#19#20#21#22#23#24#25#26#27#28#29#30#3"
 
+holds : Case → Bool
+holds (is s x y t k i ns ps w) = agree (hex s) (ascii t) (labelled (hex s) x y k i) ns ps (ascii w)
+holds (sign s k i ns ps w) = agree (hex s) (ascii fixed) (labelled (hex s) 0 0 k i) ns ps (hex w)
+
 -- 0: src[0 "x"] lin["k"] snk[0 "ab"], which is cut; 0: src[0, 0 "abc"] lin["", "hi"]; eleven nodes, the last with a sink to itself
 abbrev three : String
 three = "01010400010101000178016b00026162"
@@ -82,6 +80,19 @@ lines = "010104000202000000000361626300026869"
 
 abbrev eleven : String
 eleven = "010b18001b001e002100240027002a002d003000330036000000000000000000000000000000000000000000000000000000000000000000010a00"
+
+-- with a degree sign: 0: lin["°"]; 0: lin["45°"]; 0: snk[1 "°", 1 "ab"]; 0: src[0 "°"] lin["°C", "abc"] snk[0 "0°", 0], which is cut
+abbrev degree : String
+degree = "0101040000010002c2b0"
+
+abbrev angle : String
+angle = "01010400000100043435c2b0"
+
+abbrev leads : String
+leads = "0102060011000000020102c2b001026162000000"
+
+abbrev kinds : String
+kinds = "010104000102020002c2b003c2b04303616263000330c2b00000"
 
 -- the numbers of a refusal, and its part
 abbrev refused : ℕ → ℕ → List ℕ
@@ -126,10 +137,22 @@ cases =
     ∷ is "" 0 0 fixed 0 0 (refused 15 0) start ""
     ∷ is "" 8388352 0 fixed 0 0 (refused 15 0) start ""
     ∷ is "" 8388353 0 fixed 0 0 (refused 14 0) start ""
+    -- degree signs: the width is by characters, the part has both bytes
+    ∷ sign degree 0 0 (0 ∷ 0 ∷ 320 ∷ 576 ∷ 464 ∷ 256 ∷ []) (0 ∷ 8 ∷ 10 ∷ []) "c2b0"
+    ∷ sign angle 0 0 (0 ∷ 0 ∷ 320 ∷ 576 ∷ 464 ∷ 768 ∷ []) (0 ∷ 8 ∷ 12 ∷ []) "3435c2b0"
+    ∷ sign leads 0 0 (0 ∷ 0 ∷ 256 ∷ 464 ∷ 232 ∷ 128 ∷ []) (0 ∷ 11 ∷ 13 ∷ []) "c2b0"
+    ∷ sign leads 0 1 (0 ∷ 0 ∷ 512 ∷ 464 ∷ 232 ∷ 256 ∷ []) (0 ∷ 15 ∷ 17 ∷ []) "6162"
+    ∷ sign kinds 0 0 (0 ∷ 0 ∷ 256 ∷ 3024 ∷ 232 ∷ 128 ∷ []) (0 ∷ 9 ∷ 11 ∷ []) "c2b0"
+    ∷ sign kinds 0 1 (0 ∷ 0 ∷ 320 ∷ 3520 ∷ 464 ∷ 512 ∷ []) (0 ∷ 12 ∷ 15 ∷ []) "c2b043"
+    ∷ sign kinds 0 2 (0 ∷ 0 ∷ 320 ∷ 4160 ∷ 464 ∷ 768 ∷ []) (0 ∷ 16 ∷ 19 ∷ []) "616263"
+    ∷ sign kinds 0 3 (0 ∷ 0 ∷ 256 ∷ 4560 ∷ 232 ∷ 256 ∷ []) (0 ∷ 21 ∷ 24 ∷ []) "30c2b0"
+    ∷ sign kinds 0 4 (refused 15 0) start ""
+    ∷ sign "0101040000010001c2" 0 0 (refused 9 0) start ""
+    ∷ sign "0101040000010002c2" 0 0 (refused 6 0) start ""
     ∷ []
 
 all-hold : allOf holds cases ≡ true
-unfolding holds cases standIns standInsTo digits chartOf complete reached cutting graphed shapeOf each all round first weights triples chains order firstColumns heights firstMoves foldFrom average columns drawn sheetOf sheet sheetOfDag sheeted labelled
+unfolding holds cases ending standIns standInsTo digits chartOf complete reached cutting graphed shapeOf each all round first weights triples chains order firstColumns heights firstMoves foldFrom average columns drawn sheetOf sheet sheetOfDag sheeted labelled
 all-hold = refl
 
 -- the stand-in table

@@ -15,6 +15,7 @@ use label::is_stand_ins;
 use label::no_place;
 use label::part_of;
 use label::stand_in;
+use label::text_end;
 use pass::drawn_six;
 use pass::pass_over;
 use reader::Verdict;
@@ -79,7 +80,7 @@ pub struct LabelAnswer {
     pub width: u32,
 }
 
-// A label's text as a place: where it begins and how long it is, in the table where `fixed` and else in the chart; refused, the empty one at the chart's start.
+// A label's text as a place: where it begins and how many bytes it has, in the table where `fixed` and else in the chart; refused, the empty one at the chart's start.
 pub struct LabelSpan {
     pub answer: Answer,
     pub fixed: bool,
@@ -240,8 +241,8 @@ pub fn label_part<'a>(
                 let s = stand_in(place.number);
                 return part_of(chart, table, true, s.at, s.end);
             }
-            let at = place.at as usize;
-            return part_of(chart, table, false, at, at + place.len as usize);
+            let end = text_end(chart, place.at, place.len);
+            return part_of(chart, table, false, place.at as usize, end);
         }
         Answer::Refused(_, _) => {
             return part_of(chart, table, false, 0, 0);
@@ -267,11 +268,12 @@ pub fn label_span(chart: &[u8], x: u32, y: u32, table: &[u8], k: usize, i: usize
                     len: (s.end - s.at) as u32,
                 };
             }
+            let end = text_end(chart, place.at, place.len);
             return LabelSpan {
                 answer: Answer::Ready,
                 fixed: false,
                 at: place.at as u32,
-                len: place.len as u32,
+                len: (end - place.at as usize) as u32,
             };
         }
         Answer::Refused(number, second) => {

@@ -3,12 +3,15 @@
 -- Assumes nothing.
 use Prim.Native.Nat.{ℕ, zero, suc, _+_, _*_}
 use mathlib.Core.Option.{Option, none, some}
+use mathlib.Core.Bool.{cond}
 use mathlib.Core.List.{List, [], _∷_}
+use lib.Dec.{eqb, ltb}
 use lib.ListN.{length, getD}
 use Rattle.chart.specs.declared.Item.{Item}
 use Rattle.chart.specs.declared.Table.{Table}
 use Rattle.chart.specs.declared.Lines.{Lines}
 use Rattle.chart.specs.declared.Board.{Board as Tables}
+use Rattle.chart.specs.declared.reader.Step.{Step}
 use Rattle.chart.specs.declared.reader.Skip.{Skip}
 use Rattle.chart.specs.declared.reader.Span.{Span}
 use Rattle.chart.specs.declared.reader.End.{End as EndRead}
@@ -18,13 +21,24 @@ use Rattle.chart.specs.declared.reader.Texts.{Texts}
 use Rattle.chart.specs.declared.reader.Nodes.{Nodes}
 use Rattle.chart.specs.declared.judge.Outside.{Outside}
 use Rattle.chart.specs.declared.judge.Outside.the-variants.{Nothing, Target}
-use Rattle.chart.specs.Chart.{Part, End, Node, Counts, Board, numberOf, Got, got, refused, many, textByte, text, end, body, bodies}
+use Rattle.chart.specs.Chart.{Part, End, Node, Counts, Board, numberOf, notText, Got, got, refused, _then_, byte, many, isText, byteC2, byteB0, characters, text, end, body, bodies}
 use Rattle.chart.specs.code.Filled.{emptyTable, emptyLines, emptyBoard, pushAll, pushLines, withNode, withNodes}
 
--- only the place after it
-abbrev pub skipOf : {A : Type 0} → Got A → Skip
-skipOf (got x at) = record { refused = 0; end = at }
-skipOf (refused r) = record { refused = numberOf r; end = 0 }
+-- the next character of a text of which so many bytes are left: a text byte or a degree sign, and how many bytes it has
+abbrev pub characterAt : ℕ → List ℕ → ℕ → Got ℕ
+characterAt left s at =
+    byte s at then λ b at₁.
+    cond (eqb b byteC2)
+    (cond (ltb left 2) (refused notText) (byte s at₁ then λ c at₂. cond (eqb c byteB0) (got 2 at₂) (refused notText)))
+    (cond (isText b) (got 1 at₁) (refused notText))
+
+abbrev pub stepOf : Got ℕ → Step
+stepOf (got n at) = record { refused = 0; bytes = n }
+stepOf (refused r) = record { refused = numberOf r; bytes = 0 }
+
+abbrev pub skipOf : Got ℕ → Skip
+skipOf (got n at) = record { refused = 0; len = n; end = at }
+skipOf (refused r) = record { refused = numberOf r; len = 0; end = 0 }
 
 abbrev pub spanOf : Got Part → Span
 spanOf (got t at) = record { refused = 0; at = t .at; len = t .len; end = at }
@@ -60,9 +74,9 @@ abbrev pub nodesOf : Tables → ℕ → Got Board → Nodes
 nodesOf t p (got qs at) = record { refused = 0; end = at; board = withNodes t p qs }
 nodesOf t p (refused r) = record { refused = numberOf r; end = 0; board = emptyBoard 0 }
 
--- the answer at each place
-abbrev pub skips : List ℕ → ℕ → ℕ → Skip
-skips s at k = skipOf (many k (textByte s) at)
+-- the answer at each place; n characters stand before it
+abbrev pub skips : ℕ → List ℕ → ℕ → ℕ → Skip
+skips n s at k = skipOf (characters k s at then λ m end. got (n + m) end)
 
 abbrev pub reads-ends : Table → ℕ → List ℕ → ℕ → ℕ → Ends
 reads-ends t p s at k = endsOf t p (many k (end s) at)

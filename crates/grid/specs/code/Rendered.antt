@@ -18,7 +18,7 @@ use Rattle.grid.specs.RenderNode.{textLength, lineLength, innerWidth, ce
 
 -- ---- of a node
 abbrev pub endsOf : List Edge → Ends
-endsOf es = record { bytes = total (map textLength es); count = length es }
+endsOf es = record { len = total (map textLength es); count = length es }
 
 abbrev pub centerOf : List Line → Center
 centerOf ls = record { longest = largest (map lineLength ls); count = length ls }
@@ -51,25 +51,25 @@ abbrev pub linesFrom : ℕ → ℕ
 linesFrom count = cond (eqb count 0) 0 (640 * count - 128)
 
 abbrev pub textFrom : ℕ → ℕ
-textFrom bytes = cond (ltb 0 bytes) 256 0
+textFrom len = cond (ltb 0 len) 256 0
 
 abbrev pub emptyFrom : ℕ → ℕ
 emptyFrom inner = cond (eqb inner 128) 128 0
 
 abbrev pub innerFrom : Ends → Center → Ends → ℕ
-innerFrom a c b = max (max (128 * a .bytes) (128 * b .bytes)) (256 * c .longest) + 128
+innerFrom a c b = max (max (128 * a .len) (128 * b .len)) (256 * c .longest) + 128
 
 -- the ends e, at height y, in a width of inner
 abbrev pub runFrom : ℕ → ℕ → Ends → Run
 runFrom inner y e =
-    let gap = gapFrom (inner - 128 * e .bytes) (e .count) in
+    let gap = gapFrom (inner - 128 * e .len) (e .count) in
     record { x = firstFrom gap (e .count); y = y; gap = gap }
 
 abbrev pub centerFrom : ℕ → Ends → ℕ
-centerFrom inner a = emptyFrom inner + textFrom (a .bytes) + 128
+centerFrom inner a = emptyFrom inner + textFrom (a .len) + 128
 
 abbrev pub outputFrom : ℕ → Ends → Center → Ends → ℕ
-outputFrom inner a c b = centerFrom inner a + linesFrom (c .count) + textFrom (b .bytes)
+outputFrom inner a c b = centerFrom inner a + linesFrom (c .count) + textFrom (b .len)
 
 unfoldable pub renderFrom : Ends → Center → Ends → RenderNode
 renderFrom a c b =

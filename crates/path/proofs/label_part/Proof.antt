@@ -32,14 +32,11 @@ returns c =
     let e = fixed-part (a .chart .now) (a .table .now) (a .x) (a .y) (a .k) (a .i) (h .find-label .result) (h .find-label .ensures) (i .before .enum-told .given .1) (i .if1 .taken) (c .before .stand-in .result) (c .before .stand-in .ensures) (length (a .chart .now)) in
     is-label-part (a .chart) (a .table) (a .x) (a .y) (a .k) (a .i) _ (subst (λ (z : Place). IsAt z (a .chart) (a .table) (c .part-of .result)) e (c .part-of .ensures))
 
-cast-at : tie.Need-cast-at
-cast-at c = search needs
+text-end-requires : tie.Need-text-end-requires
+text-end-requires c κs = search needs
 
 cast-part-of : tie.Need-cast-part-of
 cast-part-of c = search needs
-
-add-part-of : tie.Need-add-part-of
-add-part-of c = search needs
 
 part-of-requires-2 : tie.Need-part-of-requires-2
 part-of-requires-2 c κs = search needs
@@ -49,7 +46,7 @@ returns-2 c =
     let i = c .before .before .before in
     let h = i .before .before .before .before in
     let a = h .before .before .before .args in
-    let e = given-part (a .chart .now) (a .table .now) (a .x) (a .y) (a .k) (a .i) (h .find-label .result) (h .find-label .ensures) (i .before .enum-told .given .1) (i .if1 .left) (length (a .table .now)) in
+    let e = given-part (a .chart .now) (a .table .now) (a .x) (a .y) (a .k) (a .i) (h .find-label .result) (h .find-label .ensures) (i .before .enum-told .given .1) (i .if1 .left) (c .before .before .text-end .result) (c .before .before .text-end .ensures) (length (a .table .now)) in
     is-label-part (a .chart) (a .table) (a .x) (a .y) (a .k) (a .i) _ (subst (λ (z : Place). IsAt z (a .chart) (a .table) (c .part-of2 .result)) e (c .part-of2 .ensures))
 
 enum-told-2 : tie.Need-enum-told-2
@@ -63,7 +60,7 @@ returns-3 c =
     let h = c .before .before .before .before in
     let a = h .before .before .before .args in
     let q = c .before .enum-told2 .given in
-    let e = refused-part (tabled (a .table .now) (labelled (a .chart .now) (a .x) (a .y) (a .k) (a .i))) (h .find-label .result) (q .0 .0) (q .0 .1 .0) (length (a .chart .now)) (length (a .table .now)) (h .find-label .ensures) (q .1) in
+    let e = refused-part (a .chart .now) (tabled (a .table .now) (labelled (a .chart .now) (a .x) (a .y) (a .k) (a .i))) (h .find-label .result) (q .0 .0) (q .0 .1 .0) (length (a .chart .now)) (length (a .table .now)) (h .find-label .ensures) (q .1) in
     is-label-part (a .chart) (a .table) (a .x) (a .y) (a .k) (a .i) _ (subst (λ (z : Place). IsAt z (a .chart) (a .table) (c .part-of3 .result)) e (c .part-of3 .ensures))
 
 pub label-part-spec : {M : Type 1} → statement M
@@ -75,9 +72,8 @@ label-part-spec =
     stand-in-requires
     part-of-requires
     returns
-    cast-at
+    text-end-requires
     cast-part-of
-    add-part-of
     part-of-requires-2
     returns-2
     enum-told-2

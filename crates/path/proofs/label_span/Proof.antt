@@ -1,9 +1,12 @@
 -- `label_span`: the numbers of `find_label`'s place, or of `stand_in`'s, by the laws of `LabelCalls`.
 -- Assumes nothing.
+use Prim.Native.Nat.{_≤_}
 use native.Mathlib.Omega.{arith}
 use Rattle.grid.specs.Labelled.{labelled}
 use Rattle.path.specs.Label.{tabled}
 use Rattle.path.proofs.LabelCalls.{number-small, span-fits, fixed-span, given-span, refused-span, is-label-span}
+use Rattle.chart.proofs.Gives.{ending-from}
+use Rattle.path.proofs.Labels.{ending-most}
 use borrow.Author.Needs.{needs}
 use Rattle.path.proofs.label_span.Statement.{statement}
 use Rattle.path.proofs.label_span.Tie as tie
@@ -20,24 +23,24 @@ stand-in-requires c κs =
     let a = h .before .before .before .args in
     number-small (a .chart .now) (a .table .now) (a .x) (a .y) (a .k) (a .i) (h .find-label .result) (h .find-label .ensures) (c .before .enum-told .given .1) (c .if1 .taken)
 
-cast-t15 : tie.Need-cast-t15
-cast-t15 c =
+cast-t16 : tie.Need-cast-t16
+cast-t16 c =
     let i = c .before .before in
     let h = i .before .before .before .before in
     let a = h .before .before .before .args in
     let w = span-fits (a .chart .now) (a .table .now) (a .x) (a .y) (a .k) (a .i) (h .find-label .result) (h .find-label .ensures) (i .before .enum-told .given .1) (i .if1 .taken) (c .before .stand-in .result) (c .before .stand-in .ensures) in
     omega (arith, w .0, w .1)
 
-sub-t16 : tie.Need-sub-t16
-sub-t16 c =
+sub-t17 : tie.Need-sub-t17
+sub-t17 c =
     let i = c .before .before .before in
     let h = i .before .before .before .before in
     let a = h .before .before .before .args in
     let w = span-fits (a .chart .now) (a .table .now) (a .x) (a .y) (a .k) (a .i) (h .find-label .result) (h .find-label .ensures) (i .before .enum-told .given .1) (i .if1 .taken) (c .before .before .stand-in .result) (c .before .before .stand-in .ensures) in
     w .0
 
-cast-t17 : tie.Need-cast-t17
-cast-t17 c =
+cast-t18 : tie.Need-cast-t18
+cast-t18 c =
     let i = c .before .before .before in
     let h = i .before .before .before .before in
     let a = h .before .before .before .args in
@@ -51,18 +54,38 @@ returns c =
     let a = h .before .before .before .args in
     is-label-span (a .chart .now) (a .table .now) (a .x) (a .y) (a .k) (a .i) _ (fixed-span (a .chart .now) (a .table .now) (a .x) (a .y) (a .k) (a .i) (h .find-label .result) (h .find-label .ensures) (i .before .enum-told .given .1) (i .if1 .taken) (c .before .before .stand-in .result) (c .before .before .stand-in .ensures))
 
-cast-t19 : tie.Need-cast-t19
-cast-t19 c = search needs
+text-end-requires : tie.Need-text-end-requires
+text-end-requires c κs = search needs
 
 cast-t20 : tie.Need-cast-t20
 cast-t20 c = search needs
 
+cast-t21 : tie.Need-cast-t21
+cast-t21 c = search needs
+
+sub-t22 : tie.Need-sub-t22
+sub-t22 c =
+    let h = c .before .before .before .before .before .before .before in
+    let a = h .before .before .before .args in
+    let p = h .find-label .result .place in
+    omega (arith, c .before .before .text-end .ensures, ending-from (p .len) (a .chart .now) (p .at))
+
+len-le : (c : tie.After-struct-known4) → c .before .before .before .before .before .before .before .find-label .result .place .len ≤ 255
+len-le c = search needs
+
+cast-t23 : tie.Need-cast-t23
+cast-t23 c =
+    let h = c .before .before .before .before .before .before .before in
+    let a = h .before .before .before .args in
+    let p = h .find-label .result .place in
+    omega (arith, c .before .before .text-end .ensures, ending-most (p .len) (a .chart .now) (p .at), len-le c)
+
 returns-2 : tie.Need-returns-2
 returns-2 c =
-    let i = c .before .before in
+    let i = c .before .before .before in
     let h = i .before .before .before .before in
     let a = h .before .before .before .args in
-    is-label-span (a .chart .now) (a .table .now) (a .x) (a .y) (a .k) (a .i) _ (given-span (a .chart .now) (a .table .now) (a .x) (a .y) (a .k) (a .i) (h .find-label .result) (h .find-label .ensures) (i .before .enum-told .given .1) (i .if1 .left))
+    is-label-span (a .chart .now) (a .table .now) (a .x) (a .y) (a .k) (a .i) _ (given-span (a .chart .now) (a .table .now) (a .x) (a .y) (a .k) (a .i) (h .find-label .result) (h .find-label .ensures) (i .before .enum-told .given .1) (i .if1 .left) (c .before .before .text-end .result) (c .before .before .text-end .ensures))
 
 enum-known-answer : tie.Need-enum-known-answer
 enum-known-answer c = search needs
@@ -72,7 +95,7 @@ returns-3 c =
     let h = c .before .before .before .before in
     let a = h .before .before .before .args in
     let q = c .before .answer .given in
-    is-label-span (a .chart .now) (a .table .now) (a .x) (a .y) (a .k) (a .i) _ (refused-span (tabled (a .table .now) (labelled (a .chart .now) (a .x) (a .y) (a .k) (a .i))) (h .find-label .result) (q .0 .0) (q .0 .1 .0) (h .find-label .ensures) (q .1))
+    is-label-span (a .chart .now) (a .table .now) (a .x) (a .y) (a .k) (a .i) _ (refused-span (a .chart .now) (tabled (a .table .now) (labelled (a .chart .now) (a .x) (a .y) (a .k) (a .i))) (h .find-label .result) (q .0 .0) (q .0 .1 .0) (h .find-label .ensures) (q .1))
 
 pub label-span-spec : {M : Type 1} → statement M
 label-span-spec =
@@ -81,12 +104,15 @@ label-span-spec =
     find-label-requires
     enum-told
     stand-in-requires
-    cast-t15
-    sub-t16
-    cast-t17
+    cast-t16
+    sub-t17
+    cast-t18
     returns
-    cast-t19
+    text-end-requires
     cast-t20
+    cast-t21
+    sub-t22
+    cast-t23
     returns-2
     enum-known-answer
     returns-3)

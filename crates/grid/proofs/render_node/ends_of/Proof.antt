@@ -22,11 +22,11 @@ abbrev left : Table → ℕ → ℕ → List Edge
 left t p k = owned p (drop k (itemsOf t))
 
 abbrev Inv-loop : tie.InvT-loop
-Inv-loop p t bytes₀ count₀ k₀ bytes count k =
-    (k ≤ t .count) × (bytes + 255 * k ≤ 255 * t .count) × (count + k ≤ t .count) × (bytes ≡ total (map textLength (left t p k))) × (count ≡ length (left t p k))
+Inv-loop p t len₀ count₀ k₀ len count k =
+    (k ≤ t .count) × (len + 255 * k ≤ 255 * t .count) × (count + k ≤ t .count) × (len ≡ total (map textLength (left t p k))) × (count ≡ length (left t p k))
 
 abbrev μ-loop : tie.MeasureT-loop
-μ-loop p t bytes₀ count₀ k₀ bytes count k = k
+μ-loop p t len₀ count₀ k₀ len count k = k
 
 room : (z : tie.Start Inv-loop μ-loop) → z .args .t1 .count ≤ length (z .args .t1 .items)
 room z = let e : length (z .args .t1 .items) ≡ 88 = search (needs, mapped-long) in let h = z .pre in omega arith
@@ -51,11 +51,11 @@ mul-e c = search needs
 element-copy-out-e : tie.Need-element-copy-out-e Inv-loop μ-loop
 element-copy-out-e c = search needs
 
-cast-bytes : tie.Need-cast-bytes Inv-loop μ-loop
-cast-bytes c = search needs
+cast-len : tie.Need-cast-len Inv-loop μ-loop
+cast-len c = search needs
 
-add-bytes : tie.Need-add-bytes Inv-loop μ-loop
-add-bytes c = search needs
+add-len : tie.Need-add-len Inv-loop μ-loop
+add-len c = search needs
 
 add-count : tie.Need-add-count Inv-loop μ-loop
 add-count c = search needs
@@ -100,8 +100,8 @@ ends-of-spec =
     cast-e
     mul-e
     element-copy-out-e
-    cast-bytes
-    add-bytes
+    cast-len
+    add-len
     add-count
     loop-less
     loop-again

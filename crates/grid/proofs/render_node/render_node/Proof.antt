@@ -20,11 +20,11 @@ low t =
     let i : inner ≤ 8388608 = omega arith in (
       i,
       omega (arith, t .before .before .before .before .before .before .before .empty-height .ensures, empty-le inner),
-      omega (arith, t .before .before .before .before .before .separation .ensures, gap-le (inner - 128 * a .a .bytes) (a .a .count)),
-      omega (arith, t .before .before .before .separation2 .ensures, gap-le (inner - 128 * a .b .bytes) (a .b .count)),
-      omega (arith, t .before .before .text-height .ensures, text-le (a .a .bytes)),
+      omega (arith, t .before .before .before .before .before .separation .ensures, gap-le (inner - 128 * a .a .len) (a .a .count)),
+      omega (arith, t .before .before .before .separation2 .ensures, gap-le (inner - 128 * a .b .len) (a .b .count)),
+      omega (arith, t .before .before .text-height .ensures, text-le (a .a .len)),
       omega (arith, t .before .lines-height .ensures, lines-le (a .c .count) (search needs)),
-      omega (arith, t .text-height2 .ensures, text-le (a .b .bytes)),
+      omega (arith, t .text-height2 .ensures, text-le (a .b .len)),
     )
 
 inner-width-requires : tie.Need-inner-width-requires
@@ -61,16 +61,16 @@ text-height-requires : tie.Need-text-height-requires
 text-height-requires c κs = search needs
 
 add-cy : tie.Need-add-cy
-add-cy c = omega (arith, c .before .before .before .before .before .empty-height .ensures, empty-le (c .before .before .before .before .before .before .inner-width .result), c .text-height .ensures, text-le (c .before .before .before .before .before .before .before .args .a .bytes))
+add-cy c = omega (arith, c .before .before .before .before .before .empty-height .ensures, empty-le (c .before .before .before .before .before .before .inner-width .result), c .text-height .ensures, text-le (c .before .before .before .before .before .before .before .args .a .len))
 
 add-cy-2 : tie.Need-add-cy-2
-add-cy-2 c = omega (arith, c .before .before .before .before .before .empty-height .ensures, empty-le (c .before .before .before .before .before .before .inner-width .result), c .text-height .ensures, text-le (c .before .before .before .before .before .before .before .args .a .bytes))
+add-cy-2 c = omega (arith, c .before .before .before .before .before .empty-height .ensures, empty-le (c .before .before .before .before .before .before .inner-width .result), c .text-height .ensures, text-le (c .before .before .before .before .before .before .before .args .a .len))
 
 lines-height-requires : tie.Need-lines-height-requires
 lines-height-requires c κs = search needs
 
 add-y : tie.Need-add-y
-add-y c = omega (arith, c .before .before .before .before .before .before .empty-height .ensures, empty-le (c .before .before .before .before .before .before .before .inner-width .result), c .before .text-height .ensures, text-le (c .before .before .before .before .before .before .before .before .args .a .bytes), c .lines-height .ensures, lines-le (c .before .before .before .before .before .before .before .before .args .c .count) (search needs))
+add-y c = omega (arith, c .before .before .before .before .before .before .empty-height .ensures, empty-le (c .before .before .before .before .before .before .before .inner-width .result), c .before .text-height .ensures, text-le (c .before .before .before .before .before .before .before .before .args .a .len), c .lines-height .ensures, lines-le (c .before .before .before .before .before .before .before .before .args .c .count) (search needs))
 
 text-height-requires-2 : tie.Need-text-height-requires-2
 text-height-requires-2 c κs = search needs

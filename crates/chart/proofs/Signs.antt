@@ -1,0 +1,207 @@
+-- Texts with degree signs and without, in document 02's words.
+-- Assumes nothing.
+use Prim.Native.Nat.{ℕ, zero, suc, _+_, _*_, _≤_, _<_}
+use native.Mathlib.Omega.{arith}
+use mathlib.Core.Path.{_≡_, refl, ap, sym, _∙_, fun-ext}
+use mathlib.Core.Bool.{Bool, true, false, cond}
+use mathlib.Core.List.{List, [], _∷_, _++_}
+use lib.Dec.{eqb, leb, ltb}
+use lib.ListN.{length, getD, take, drop, take-append-drop, length-drop}
+use lib.Seq.{length-take-le}
+use borrow.Author.Tests.{lt-ltb, le-ltb, eqb-true, ne-eqb}
+use Rattle.chart.specs.Chart.{Part, End, Node, Board, Reading, refusal, cutBody, misplaced, longText, notText, Got, got, refused, _then_, byte, many, isText, textByte, byteC2, byteB0, characters, text, counts, entry, bodies, judged, underTwo, chart}
+use Rattle.chart.specs.Text.{Texted, empty, plain, degree, charactersIn, ending, bytesOf, textOf}
+use Rattle.chart.specs.Accepted.{Fitting}
+use Rattle.chart.proofs.Gives.{Gives, text-no-sign, ending-from, Characters, characters-give}
+use Rattle.chart.proofs.Complete.{byte-reads, characters-read}
+
+-- ---- 'Agreement with the crate is from here on over charts without a degree sign': there nothing has changed
+
+-- the text before degree signs: each byte is a character
+abbrev pub plainText : List ℕ → ℕ → Got Part
+plainText s at =
+    byte s at then λ len begin. cond (leb len 24) (many len (textByte s) begin then λ bytes end. got (record { at = begin; len = len }) end) (refused longText)
+
+-- the readers of a chart as Chart has them, but for the reader of a text, which is given
+module _ (read : ℕ → Got Part) (s : List ℕ) where
+  abbrev endBy : ℕ → Got End
+  endBy at = byte s at then λ to at₁. read at₁ then λ t at₂. got (record { to = to; text = t }) at₂
+
+  abbrev itemsBy : ℕ → ℕ → ℕ → ℕ → Got Node
+  itemsBy i j k at =
+      many i endBy at then λ sources at₁.
+      many j read at₁ then λ lines at₂.
+      many k endBy at₂ then λ sinks at₃.
+      got (record { sources = sources; lines = lines; sinks = sinks }) at₃
+
+  abbrev bodyBy : ℕ → Got Node
+  bodyBy at = counts s at then λ c at₁. itemsBy (c .sources) (c .lines) (c .sinks) at₁
+
+  abbrev bodiesBy : ℕ → ℕ → ℕ → Got Board
+  bodiesBy zero k at = got [] at
+  bodiesBy (suc m) k at =
+      cond (eqb (entry s k) at) (bodyBy at then λ node at₁. bodiesBy m (suc k) at₁ then λ nodes at₂. got (node ∷ nodes) at₂) (refused misplaced)
+
+  abbrev pub chartBy : Reading
+  chartBy =
+      let n = getD s 1 0 in
+      cond (ltb (length s) 2) (underTwo (length s))
+      (cond (eqb (getD s 0 0) 1)
+      (cond (leb n 32)
+      (cond (leb (2 + 2 * n) (length s))
+      (judged s n (bodiesBy n 0 (2 + 2 * n)))
+      (refusal 4 0))
+      (refusal 3 0))
+      (refusal 2 0))
+
+-- given Chart's reader of a text they read as Chart's do
+bodies-by : (m : ℕ) (s : List ℕ) (k at : ℕ) → bodies m s k at ≡ bodiesBy (text s) s m k at
+bodies-by zero s k at = refl
+bodies-by (suc m) s k at = rw (fun-ext (bodies-by m s (suc k)))
+
+pub chart-by : (s : List ℕ) → chart s ≡ chartBy (text s) s
+unfolding chart
+chart-by s = rw (bodies-by (getD s 1 0) s 0 (2 + 2 * getD s 1 0))
+
+-- no byte pair C2 B0 in the chart, and no C2 at its end (there document 02 says 6 where 9 was said)
+abbrev pub Unsigned : List ℕ → Type 0
+Unsigned s = (j : ℕ) → getD s j 0 ≡ byteC2 → (j + 1 < length s) × (getD s (j + 1) 0 ≡ byteB0 → ⊥)
+
+-- k bytes were read, each a character
+abbrev counted : ℕ → Got (List ℕ) → Got ℕ
+counted k g = g then λ bytes end. got k end
+
+-- read on, and on again
+then-then : {A B C : Type 0} (g : Got A) (f : A → ℕ → Got B) (h : B → ℕ → Got C) → ((g then f) then h) ≡ (g then λ x at. f x at then h)
+then-then (got x at) f h = refl
+then-then (refused r) f h = refl
+
+count-is : (k n e : ℕ) (g : Got (List ℕ)) → counted k g ≡ got n e → n ≡ k
+count-is k n e (got bs at) h = cc
+count-is k n e (refused r) h = let z : _≡_ {A = ℕ} 0 1 = cc in absurd (omega arith)
+
+module _ (s : List ℕ) (u : Unsigned s) where
+  -- a C2 is refused by 9, as it was
+  unsigned-characters : (k at : ℕ) → characters k s at ≡ counted k (many k (textByte s) at)
+  unsigned-characters zero at = refl
+  unsigned-characters (suc zero) at = sym (then-then (textByte s at) _ _)
+  unsigned-characters (suc (suc k)) at = go (ltb at (length s)) (eqb b byteC2) (isText b) refl refl refl (unsigned-characters (suc k) (at + 1))
+    where
+      b : ℕ
+      b = getD s at 0
+
+      go : (x y z : Bool) → ltb at (length s) ≡ x → eqb b byteC2 ≡ y → isText b ≡ z → characters (suc k) s (at + 1) ≡ counted (suc k) (many (suc k) (textByte s) (at + 1))
+          → characters (suc (suc k)) s at ≡ counted (suc (suc k)) (many (suc (suc k)) (textByte s) at)
+      go false y z e f g h = rw e
+      go true true z e f g h =
+          let c : b ≡ byteC2 = eqb-true b byteC2 f in
+          rw (e, c, lt-ltb (at + 1) (length s) (u at c .0), ne-eqb (getD s (at + 1) 0) byteB0 (u at c .1))
+      go true false false e f g h = rw (e, f, g)
+      go true false true e f g h = rw (e, f, g, h) (then-then (many (suc k) (textByte s) (at + 1)) _ _ ∙ sym (then-then (many (suc k) (textByte s) (at + 1)) _ _))
+
+  pub unsigned-text : (at : ℕ) → text s at ≡ plainText s at
+  unsigned-text at = go (ltb at (length s)) (leb k 24) refl refl
+    where
+      k : ℕ
+      k = getD s at 0
+
+      go : (x y : Bool) → ltb at (length s) ≡ x → leb k 24 ≡ y → text s at ≡ plainText s at
+      go false y e f = rw e
+      go true false e f = rw (e, f)
+      go true true e f = rw (e, f, unsigned-characters k (at + 1)) (then-then (many k (textByte s) (at + 1)) _ _)
+
+  pub unsigned-chart : chart s ≡ chartBy (plainText s) s
+  unsigned-chart = chart-by s ∙ ap (λ (read : ℕ → Got Part). chartBy read s) (fun-ext unsigned-text)
+
+-- a text's end is its length further on, as before
+pub unsigned-ending : (s : List ℕ) (t : Part) → Fitting s t → Unsigned s → ending (t .len) s (t .at) ≡ t .at + t .len
+unsigned-ending s t f u =
+    let from = ending-from (t .len) s (t .at) in
+    let rest = drop (t .at) s in
+    let k = length (textOf s t) in
+    let long : k ≡ bytesOf s t = length-take-le (bytesOf s t) rest (omega (arith, f .inside, length-drop (t .at) s)) in
+    let r = characters-read (f .texted) s (t .at) (drop (bytesOf s t) rest) (sym (take-append-drop (bytesOf s t) rest)) in
+    let same : charactersIn (textOf s t) ≡ k = count-is k _ (t .at + k) (many k (textByte s) (t .at)) (sym (unsigned-characters s u k (t .at)) ∙ r .is) in
+    omega (arith, from, f .counted, same, long)
+
+-- ---- 'Either byte without its partner in the same text is refused by 9'
+
+-- if refused, by 9
+abbrev ByNine : {A : Type 0} → Got A → Type 0
+ByNine (got x at) = Unit {0}
+ByNine (refused r) = r ≡ notText
+
+nine-then : {A B : Type 0} (g : Got A) (f : A → ℕ → Got B) → ByNine g → ((x : A) (at : ℕ) → ByNine (f x at)) → ByNine (g then f)
+nine-then (got x at) f p q = q x at
+nine-then (refused r) f p q = p
+
+nine-if : {A : Type 0} (b : Bool) (g h : Got A) → ByNine g → ByNine h → ByNine (cond b g h)
+nine-if true g h p q = p
+nine-if false g h p q = q
+
+characters-nine : (k : ℕ) (s : List ℕ) (at : ℕ) → at + k ≤ length s → ByNine (characters k s at)
+characters-nine zero s at l = tt
+characters-nine (suc zero) s at l =
+    rw (lt-ltb at (length s) (omega arith)) (nine-then (cond (isText (getD s at 0)) (got (getD s at 0) (at + 1)) (refused notText)) _ (nine-if (isText (getD s at 0)) _ _ tt refl) (λ x e. tt))
+characters-nine (suc (suc k)) s at l =
+    rw (lt-ltb at (length s) (omega arith), lt-ltb (at + 1) (length s) (omega arith))
+    (nine-if (eqb (getD s at 0) byteC2) _ _
+    (nine-if (eqb (getD s (at + 1) 0) byteB0) _ _ (nine-then (characters k s (at + 1 + 1)) _ (characters-nine k s (at + 1 + 1) (omega arith)) (λ n e. tt)) refl)
+    (nine-if (isText (getD s at 0)) _ _ (nine-then (characters (suc k) s (at + 1)) _ (characters-nine (suc k) s (at + 1) (omega arith)) (λ n e. tt)) refl))
+
+-- a text whose bytes are all there is read exactly if it is text bytes and degree signs, and is else refused by 9
+module _ (s : List ℕ) (at k : ℕ) (there : at + k ≤ length s) where
+  abbrev bytes : List ℕ
+  bytes = take k (drop at s)
+
+  long : length bytes ≡ k
+  long = length-take-le k (drop at s) (omega (arith, length-drop at s))
+
+  pub texted-read : Texted bytes → characters k s at ≡ got (charactersIn bytes) (at + k)
+  texted-read t = rw long at (characters-read t s at (drop k (drop at s)) (sym (take-append-drop k (drop at s))) .is)
+
+  pub else-nine : (Texted bytes → ⊥) → characters k s at ≡ refused notText
+  else-nine other = go (characters k s at) (characters-give k s at) (characters-nine k s at there)
+    where
+      go : (g : Got ℕ) → Gives g (Characters s at k) → ByNine g → g ≡ refused notText
+      go (got n e) c b = absurd (other (c .texted))
+      go (refused r) c b = ap refused b
+
+-- ---- 'where the chart ends after a C2 whose text goes on, it is 6'; and so where it ends after a character
+
+-- after text bytes and degree signs the chart has only l
+module _ (l : List ℕ) (cut : (k : ℕ) (s : List ℕ) (at : ℕ) → drop at s ≡ l → length l < k → characters k s at ≡ refused cutBody) where
+  begun-cut : {t : List ℕ} → Texted t → (k : ℕ) (s : List ℕ) (at : ℕ) → drop at s ≡ t ++ l → length t + length l < k → characters k s at ≡ refused cutBody
+  begun-cut empty k s at e h = cut k s at e (omega arith)
+  begun-cut (plain {b = b} {t = t} i w) zero s at e h = absurd (omega arith)
+  begun-cut (plain {b = b} {t = t} i w) (suc zero) s at e h = absurd (omega arith)
+  begun-cut (plain {b = b} {t = t} i w) (suc (suc k)) s at e h =
+      let r = byte-reads s at b (t ++ l) e in
+      let c = begun-cut w (suc k) s (at + 1) (r .rest) (omega arith) in
+      rw (r .is, text-no-sign b i, i, c)
+  begun-cut (degree {t = t} w) zero s at e h = absurd (omega arith)
+  begun-cut (degree {t = t} w) (suc zero) s at e h = absurd (omega arith)
+  begun-cut (degree {t = t} w) (suc (suc k)) s at e h =
+      let r = byte-reads s at byteC2 (byteB0 ∷ (t ++ l)) e in
+      let q = byte-reads s (at + 1) byteB0 (t ++ l) (r .rest) in
+      let c = begun-cut w k s (at + 1 + 1) (q .rest) (omega arith) in
+      rw (r .is, q .is, c)
+
+past : (s : List ℕ) (at : ℕ) → drop at s ≡ [] → length s ≤ at
+past s at e = omega (arith, length-drop at s, ap length e)
+
+cut-here : (k : ℕ) (s : List ℕ) (at : ℕ) → drop at s ≡ [] → 0 < k → characters k s at ≡ refused cutBody
+cut-here zero s at e h = absurd (omega arith)
+cut-here (suc zero) s at e h = rw (le-ltb at (length s) (past s at e))
+cut-here (suc (suc k)) s at e h = rw (le-ltb at (length s) (past s at e))
+
+cut-sign : (k : ℕ) (s : List ℕ) (at : ℕ) → drop at s ≡ byteC2 ∷ [] → 1 < k → characters k s at ≡ refused cutBody
+cut-sign zero s at e h = absurd (omega arith)
+cut-sign (suc zero) s at e h = absurd (omega arith)
+cut-sign (suc (suc k)) s at e h = let r = byte-reads s at byteC2 [] e in rw (r .is, le-ltb (at + 1) (length s) (past s (at + 1) (r .rest)))
+
+pub six-after-sign : {t : List ℕ} → Texted t → (k : ℕ) (s : List ℕ) (at : ℕ) → drop at s ≡ t ++ (byteC2 ∷ []) → length t + 1 < k → characters k s at ≡ refused cutBody
+six-after-sign = begun-cut (byteC2 ∷ []) cut-sign
+
+pub six-after-text : {t : List ℕ} → Texted t → (k : ℕ) (s : List ℕ) (at : ℕ) → drop at s ≡ t ++ [] → length t + 0 < k → characters k s at ≡ refused cutBody
+six-after-text = begun-cut [] cut-here
