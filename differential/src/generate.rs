@@ -496,12 +496,42 @@ fn damage_signs(r: &mut Random, chart: &mut Vec<u8>) {
     }
 }
 
-/// A chart with degree signs; one in three is damaged.
+/// A text ends in C2: the chart may end there, or go on with B0.
+fn end_in_half(r: &mut Random, bodies: &mut [Body]) -> Vec<u8> {
+    let mut texts: Vec<_> = bodies
+        .iter_mut()
+        .flat_map(|body| {
+            let ends = body.sources.iter_mut().chain(body.sinks.iter_mut());
+            ends.map(|end| &mut end.text).chain(body.lines.iter_mut())
+        })
+        .filter(|text| !text.is_empty())
+        .collect();
+    if !texts.is_empty() {
+        let chosen = r.below(texts.len());
+        *texts[chosen].last_mut().unwrap() = 0xc2;
+    }
+    let mut chart = chart::write(bodies);
+    let half = (0..chart.len()).rfind(|&i| chart[i] == 0xc2 && chart.get(i + 1) != Some(&0xb0));
+    if let Some(i) = half {
+        match r.below(3) {
+            0 => chart.truncate(i + 1),
+            1 if i + 1 < chart.len() => chart[i + 1] = 0xb0,
+            _ => {}
+        }
+    }
+    chart
+}
+
+/// A chart with degree signs; four in nine are damaged.
 fn signed(r: &mut Random) -> Vec<u8> {
     let mut bodies = sound(r);
     put_signs(r, &mut bodies);
+    let damage = r.below(9);
+    if damage == 3 {
+        return end_in_half(r, &mut bodies);
+    }
     let mut chart = chart::write(&bodies);
-    match r.below(9) {
+    match damage {
         0 | 1 => damage_signs(r, &mut chart),
         2 => damage_bytes(r, &mut chart),
         _ => {}
