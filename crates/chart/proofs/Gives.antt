@@ -12,7 +12,7 @@ use lib.ListN.{length, getD, take, drop}
 use lib.Seq.{drop-cons}
 use borrow.Author.Tests.{ltb-true, ltb-false, leb-true, eqb-true, ne-eqb}
 use Rattle.chart.specs.Chart.{Part, End, Node, Counts, Board, endsOf, Refusal, Got, got, refused, _then_, byte, many, isText, textByte, characters, text, end, counts, items, body, entry, bodies, byteC2, byteB0}
-use Rattle.chart.specs.Text.{Texted, empty, plain, degree, charactersIn, size, ending}
+use Rattle.chart.specs.Text.{Texted, empty, plain, degree, charactersIn, characterBytes, ending}
 use Rattle.laws.specs.Lists.{All}
 use Rattle.chart.specs.Accepted.{Fitting}
 
@@ -67,7 +67,7 @@ counted-plain b (c ∷ t) e = rw e
 pub ending-from : (k : ℕ) (s : List ℕ) (at : ℕ) → at ≤ ending k s at
 unfolding ending
 ending-from zero s at = omega arith
-ending-from (suc k) s at = omega (arith, ending-from k s (at + size (getD s at 0)))
+ending-from (suc k) s at = omega (arith, ending-from k s (at + characterBytes (getD s at 0)))
 
 -- k bytes of text from at on, which are n characters
 pub record Characters (s : List ℕ) (at k n e : ℕ) : Type 0 where

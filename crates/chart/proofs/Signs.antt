@@ -9,7 +9,7 @@ use lib.Dec.{eqb, leb, ltb}
 use lib.ListN.{length, getD, take, drop, take-append-drop, length-drop}
 use lib.Seq.{length-take-le}
 use borrow.Author.Tests.{lt-ltb, le-ltb, eqb-true, ne-eqb}
-use Rattle.chart.specs.Chart.{Part, End, Node, Board, Reading, refusal, cutBody, misplaced, longText, notText, Got, got, refused, _then_, byte, many, isText, textByte, byteC2, byteB0, characters, text, counts, entry, bodies, judged, underTwo, chart}
+use Rattle.chart.specs.Chart.{Part, End, Node, Board, Reading, ready, refusal, Refusal, cutBody, misplaced, longText, notText, Got, got, refused, _then_, byte, many, isText, textByte, byteC2, byteB0, characters, text, end, counts, body, entry, bodies, judged, underTwo, chart}
 use Rattle.chart.specs.Text.{Texted, empty, plain, degree, charactersIn, ending, bytesOf, textOf}
 use Rattle.chart.specs.Accepted.{Fitting}
 use Rattle.chart.proofs.Gives.{Gives, text-no-sign, ending-from, Characters, characters-give}
@@ -123,6 +123,103 @@ unsigned-ending s t f u =
     let r = characters-read (f .texted) s (t .at) (drop (bytesOf s t) rest) (sym (take-append-drop (bytesOf s t) rest)) in
     let same : charactersIn (textOf s t) ≡ k = count-is k _ (t .at + k) (many k (textByte s) (t .at)) (sym (unsigned-characters s u k (t .at)) ∙ r .is) in
     omega (arith, from, f .counted, same, long)
+
+-- ---- a chart that was accepted before is read as it was
+
+-- what was read before is read so now
+abbrev Kept : {A : Type 0} → Got A → Got A → Type 0
+Kept (got x at) now = now ≡ got x at
+Kept (refused r) now = Unit {0}
+
+kept-self : {A : Type 0} (g : Got A) → Kept g g
+kept-self (got x at) = refl
+kept-self (refused r) = tt
+
+kept-then : {A B : Type 0} (g h : Got A) (f k : A → ℕ → Got B) → Kept g h → ((x : A) (at : ℕ) → Kept (f x at) (k x at)) → Kept (g then f) (h then k)
+kept-then (got x at) h f k p q = rw p (q x at)
+kept-then (refused r) h f k p q = tt
+
+kept-if : {A : Type 0} (b : Bool) (g h : Got A) (r : Refusal) → Kept g h → Kept (cond b g (refused r)) (cond b h (refused r))
+kept-if true g h r p = p
+kept-if false g h r p = tt
+
+kept-many : {A : Type 0} (k : ℕ) (f g : ℕ → Got A) → ((at : ℕ) → Kept (f at) (g at)) → (at : ℕ) → Kept (many k f at) (many k g at)
+kept-many zero f g p at = refl
+kept-many (suc k) f g p at = kept-then (f at) (g at) _ _ (p at) (λ x e. kept-then (many k f e) (many k g e) _ _ (kept-many k f g p e) (λ xs end. refl))
+
+-- k bytes that were read, and how many characters these are
+kept-counted : {A : Type 0} (k : ℕ) (g : Got (List ℕ)) (h : Got ℕ) (f : ℕ → ℕ → Got A) → Kept (counted k g) h → Kept (g then λ bytes end. f k end) (h then f)
+kept-counted k (got bs at) h f p = rw p (kept-self (f k at))
+kept-counted k (refused r) h f p = tt
+
+module _ (s : List ℕ) where
+  kept-characters : (k at : ℕ) → Kept (counted k (many k (textByte s) at)) (characters k s at)
+  kept-characters zero at = refl
+  kept-characters (suc zero) at = rw (then-then {C = ℕ} (textByte s at) (λ b e. got (b ∷ []) e) (λ bytes end. got 1 end)) (kept-self (textByte s at then λ b e. got 1 e))
+  kept-characters (suc (suc k)) at = go (ltb at (length s)) (isText b) refl refl (kept-characters (suc k) (at + 1))
+    where
+      b : ℕ
+      b = getD s at 0
+
+      go : (x y : Bool) → ltb at (length s) ≡ x → isText b ≡ y → Kept (counted (suc k) (many (suc k) (textByte s) (at + 1))) (characters (suc k) s (at + 1))
+          → Kept (counted (suc (suc k)) (many (suc (suc k)) (textByte s) at)) (characters (suc (suc k)) s at)
+      go false y e f h = rw e tt
+      go true false e f h = rw (e, f) tt
+      go true true e f h =
+          rw (e, f, text-no-sign b f, then-then {C = ℕ} (many (suc k) (textByte s) (at + 1)) (λ bs end. got (b ∷ bs) end) (λ bs end. got (suc (suc k)) end))
+          (kept-counted (suc k) (many (suc k) (textByte s) (at + 1)) (characters (suc k) s (at + 1)) (λ n end. got (suc n) end) h)
+
+  kept-text : (at : ℕ) → Kept (plainText s at) (text s at)
+  kept-text at =
+      kept-then (byte s at) (byte s at) _ _ (kept-self (byte s at))
+      (λ len begin. kept-if (leb len 24) _ _ longText
+      (kept-counted len (many len (textByte s) begin) (characters len s begin) (λ n end. got (part begin n) end) (kept-characters len begin)))
+    where
+      part : ℕ → ℕ → Part
+      part begin n = record { at = begin; len = n }
+
+  kept-end : (at : ℕ) → Kept (endBy (plainText s) s at) (end s at)
+  kept-end at =
+      kept-then (byte s at) (byte s at) _ _ (kept-self (byte s at))
+      (λ to e. kept-then (plainText s e) (text s e) _ _ (kept-text e) (λ t f. refl))
+
+  kept-body : (at : ℕ) → Kept (bodyBy (plainText s) s at) (body s at)
+  kept-body at =
+      kept-then (counts s at) (counts s at) _ _ (kept-self (counts s at))
+      (λ c a. kept-then (many (c .sources) (endBy (plainText s) s) a) (many (c .sources) (end s) a) _ _ (kept-many (c .sources) _ _ kept-end a)
+      (λ xs d. kept-then (many (c .lines) (plainText s) d) (many (c .lines) (text s) d) _ _ (kept-many (c .lines) _ _ kept-text d)
+      (λ ls e. kept-then (many (c .sinks) (endBy (plainText s) s) e) (many (c .sinks) (end s) e) _ _ (kept-many (c .sinks) _ _ kept-end e)
+      (λ ys f. refl))))
+
+  kept-bodies : (m k at : ℕ) → Kept (bodiesBy (plainText s) s m k at) (bodies m s k at)
+  kept-bodies zero k at = refl
+  kept-bodies (suc m) k at =
+      kept-if (eqb (entry s k) at) _ _ misplaced
+      (kept-then (bodyBy (plainText s) s at) (body s at) _ _ (kept-body at)
+      (λ p e. kept-then (bodiesBy (plainText s) s m (suc k) e) (bodies m s (suc k) e) _ _ (kept-bodies m (suc k) e)
+      (λ ps f. refl)))
+
+  module _ (ps : Board) where
+    kept-judged : (n : ℕ) (g h : Got Board) → Kept g h → judged s n g ≡ ready ps → judged s n h ≡ ready ps
+    kept-judged n (got qs at) h p e = rw p e
+    kept-judged n (refused r) h p e = let z : _≡_ {A = ℕ} 0 1 = cc in absurd (omega arith)
+
+    pub accepted-before : chartBy (plainText s) s ≡ ready ps → chart s ≡ ready ps
+    unfolding chart
+    accepted-before = go (ltb (length s) 2) (eqb (getD s 0 0) 1) (leb n 32) (leb (2 + 2 * n) (length s))
+      where
+        n : ℕ
+        n = getD s 1 0
+
+        tested : Bool → Bool → Bool → Bool → Got Board → Reading
+        tested a b c d g = cond a (underTwo (length s)) (cond b (cond c (cond d (judged s n g) (refusal 4 0)) (refusal 3 0)) (refusal 2 0))
+
+        go : (a b c d : Bool) → tested a b c d (bodiesBy (plainText s) s n 0 (2 + 2 * n)) ≡ ready ps → tested a b c d (bodies n s 0 (2 + 2 * n)) ≡ ready ps
+        go true b c d e = e
+        go false false c d e = e
+        go false true false d e = e
+        go false true true false e = e
+        go false true true true e = kept-judged n (bodiesBy (plainText s) s n 0 (2 + 2 * n)) (bodies n s 0 (2 + 2 * n)) (kept-bodies n 0 (2 + 2 * n)) e
 
 -- ---- 'Either byte without its partner in the same text is refused by 9'
 

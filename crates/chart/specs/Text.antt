@@ -23,13 +23,13 @@ charactersIn (b ∷ c ∷ t) = cond (eqb b byteC2) (suc (charactersIn t)) (suc (
 -- ---- in a chart, where a text is a place and a count of characters
 
 -- how many bytes the character has that begins with b
-abbrev pub size : ℕ → ℕ
-size b = cond (eqb b byteC2) 2 1
+abbrev pub characterBytes : ℕ → ℕ
+characterBytes b = cond (eqb b byteC2) 2 1
 
 -- the place after k characters
 unfoldable pub ending : ℕ → List ℕ → ℕ → ℕ
 ending zero s at = at
-ending (suc k) s at = ending k s (at + size (getD s at 0))
+ending (suc k) s at = ending k s (at + characterBytes (getD s at 0))
 
 -- how many bytes a text of the chart s has, and these
 abbrev pub bytesOf : List ℕ → Part → ℕ

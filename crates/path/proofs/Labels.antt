@@ -13,7 +13,7 @@ use Rattle.laws.specs.Bytes.{allOf, same}
 use Rattle.laws.specs.Lists.{tabulate}
 use Rattle.laws.proofs.Lists.{one-more, same-true, same-self, right-at}
 use Rattle.chart.specs.Chart.{isText, byteC2}
-use Rattle.chart.specs.Text.{Texted, empty, plain, charactersIn, size, ending}
+use Rattle.chart.specs.Text.{Texted, empty, plain, charactersIn, characterBytes, ending}
 use Rattle.chart.proofs.Gives.{text-no-sign, counted-plain}
 use Rattle.graph.specs.Graph.{number}
 use Rattle.grid.specs.RenderNode.{lineLength}
@@ -22,7 +22,7 @@ use Rattle.path.specs.Label.{standIn, standInsTo, standIns}
 use Rattle.path.proofs.Readings.{both}
 
 -- ---- the end of a text
-pub ending-next : (left : ℕ) (s : List ℕ) (at : ℕ) → 0 < left → ending left s at ≡ ending (left - 1) s (at + size (getD s at 0))
+pub ending-next : (left : ℕ) (s : List ℕ) (at : ℕ) → 0 < left → ending left s at ≡ ending (left - 1) s (at + characterBytes (getD s at 0))
 unfolding ending
 ending-next left s at h = one-more (λ (k : ℕ). ending k s at) left h
 
@@ -30,8 +30,8 @@ pub ending-none : (left : ℕ) (s : List ℕ) (at : ℕ) → left ≡ 0 → at �
 unfolding ending
 ending-none left s at e = rw e
 
-pub size-most : (b : ℕ) → size b ≤ 2
-size-most b = go (eqb b byteC2)
+pub bytes-most : (b : ℕ) → characterBytes b ≤ 2
+bytes-most b = go (eqb b byteC2)
   where
     go : (c : Bool) → cond c 2 1 ≤ 2
     go true = omega arith
@@ -40,7 +40,7 @@ size-most b = go (eqb b byteC2)
 pub ending-most : (k : ℕ) (s : List ℕ) (at : ℕ) → ending k s at ≤ at + 2 * k
 unfolding ending
 ending-most zero s at = omega arith
-ending-most (suc k) s at = omega (arith, ending-most k s (at + size (getD s at 0)), size-most (getD s at 0))
+ending-most (suc k) s at = omega (arith, ending-most k s (at + characterBytes (getD s at 0)), bytes-most (getD s at 0))
 
 -- text bytes alone are as many characters
 plain-characters : (t : List ℕ) → allOf isText t ≡ true → Texted t × (charactersIn t ≡ length t)

@@ -3,7 +3,7 @@ ghost use mathlib.Core.Path.{_≡_};
 ghost use Prim.Native.Nat.{_<_};
 ghost use lib.ListN.{length, getD};
 ghost use Rattle.laws.specs.Bytes.{same};
-ghost use Rattle.chart.specs.Text.{size, ending};
+ghost use Rattle.chart.specs.Text.{characterBytes, ending};
 ghost use Rattle.grid.specs.Labels.{noLabel};
 ghost use Rattle.path.specs.Label.{partAt, IsAt, standIns, standInSpan};
 use grid::LabelPlace;
@@ -34,8 +34,8 @@ pub fn part_of<'a>(chart: &'a [u8], table: &'a [u8], fixed: bool, at: usize, end
 }
 
 // How many bytes the character at a place of the chart has: a degree sign begins with C2.
-fn character_size(chart: &[u8], at: usize) -> usize
-    ensures { λ r. ⌜ r ≡ size (getD (now (chart .entry)) at 0) ⌝ }
+fn character_bytes(chart: &[u8], at: usize) -> usize
+    ensures { λ r. ⌜ r ≡ characterBytes (getD (now (chart .entry)) at 0) ⌝ }
 {
     if at < chart.len() {
         if chart[at] == 0xc2 {
@@ -52,7 +52,7 @@ pub fn text_end(chart: &[u8], at: u16, len: u8) -> usize
     let mut end = at as usize;
     let mut left = len;
     while left > 0 {
-        end += character_size(chart, end);
+        end += character_bytes(chart, end);
         left -= 1;
     }
     end

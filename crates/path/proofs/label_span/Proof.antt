@@ -1,7 +1,9 @@
 -- `label_span`: the numbers of `find_label`'s place, or of `stand_in`'s, by the laws of `LabelCalls`.
 -- Assumes nothing.
-use Prim.Native.Nat.{_≤_}
+use Prim.Native.Nat.{ℕ, _≤_}
 use native.Mathlib.Omega.{arith}
+use mathlib.Core.List.{List}
+use Rattle.grid.specs.declared.LabelPlace.{LabelPlace}
 use Rattle.grid.specs.Labelled.{labelled}
 use Rattle.path.specs.Label.{tabled}
 use Rattle.path.proofs.LabelCalls.{number-small, span-fits, fixed-span, given-span, refused-span, is-label-span}
@@ -54,6 +56,20 @@ returns c =
     let a = h .before .before .before .args in
     is-label-span (a .chart .now) (a .table .now) (a .x) (a .y) (a .k) (a .i) _ (fixed-span (a .chart .now) (a .table .now) (a .x) (a .y) (a .k) (a .i) (h .find-label .result) (h .find-label .ensures) (i .before .enum-told .given .1) (i .if1 .taken) (c .before .before .stand-in .result) (c .before .before .stand-in .ensures))
 
+-- a text of the chart: where the label was found, its place, and the chart
+module _ (e : tie.After-text-end) where
+  abbrev found : tie.After-find-label
+  found = e .before .before .before .before .before
+
+  abbrev place : LabelPlace
+  place = found .find-label .result .place
+
+  abbrev chart : List ℕ
+  chart = found .before .before .before .args .chart .now
+
+  len-le : place .len ≤ 255
+  len-le = search needs
+
 text-end-requires : tie.Need-text-end-requires
 text-end-requires c κs = search needs
 
@@ -64,21 +80,10 @@ cast-t21 : tie.Need-cast-t21
 cast-t21 c = search needs
 
 sub-t22 : tie.Need-sub-t22
-sub-t22 c =
-    let h = c .before .before .before .before .before .before .before in
-    let a = h .before .before .before .args in
-    let p = h .find-label .result .place in
-    omega (arith, c .before .before .text-end .ensures, ending-from (p .len) (a .chart .now) (p .at))
-
-len-le : (c : tie.After-struct-known4) → c .before .before .before .before .before .before .before .find-label .result .place .len ≤ 255
-len-le c = search needs
+sub-t22 c = let e = c .before .before in omega (arith, e .text-end .ensures, ending-from (place e .len) (chart e) (place e .at))
 
 cast-t23 : tie.Need-cast-t23
-cast-t23 c =
-    let h = c .before .before .before .before .before .before .before in
-    let a = h .before .before .before .args in
-    let p = h .find-label .result .place in
-    omega (arith, c .before .before .text-end .ensures, ending-most (p .len) (a .chart .now) (p .at), len-le c)
+cast-t23 c = let e = c .before .before in omega (arith, e .text-end .ensures, ending-most (place e .len) (chart e) (place e .at), len-le e)
 
 returns-2 : tie.Need-returns-2
 returns-2 c =

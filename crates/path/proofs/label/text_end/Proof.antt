@@ -5,7 +5,7 @@ use mathlib.Core.Path.{_≡_, refl, sym, _∙_}
 use native.Mathlib.Omega.{arith}
 use lib.ListN.{getD}
 use Rattle.chart.specs.Text.{ending}
-use Rattle.path.proofs.Labels.{ending-next, ending-none, size-most}
+use Rattle.path.proofs.Labels.{ending-next, ending-none, bytes-most}
 use borrow.Author.Needs.{needs}
 use Rattle.path.proofs.label.text_end.Statement.{statement}
 use Rattle.path.proofs.label.text_end.Tie as tie
@@ -19,14 +19,14 @@ abbrev μ-loop : tie.MeasureT-loop
 loop-holds : tie.Need-loop-holds Inv-loop μ-loop
 loop-holds c = (refl, search needs)
 
-character-size-requires : tie.Need-character-size-requires Inv-loop μ-loop
-character-size-requires c κs = search needs
+character-bytes-requires : tie.Need-character-bytes-requires Inv-loop μ-loop
+character-bytes-requires c κs = search needs
 
 add-end : tie.Need-add-end Inv-loop μ-loop
 add-end c =
     let l = c .before .before .loop in
     let a = c .before .before .before .before .args in
-    omega (arith, c .character-size .ensures, size-most (getD (a .chart .now) (l .end) 0), l .inv .1)
+    omega (arith, c .character-bytes .ensures, bytes-most (getD (a .chart .now) (l .end) 0), l .inv .1)
 
 sub-left : tie.Need-sub-left Inv-loop μ-loop
 sub-left c = search needs
@@ -38,8 +38,8 @@ loop-again : tie.Need-loop-again Inv-loop μ-loop
 loop-again c =
     let l = c .before .before .loop in
     let a = c .before .before .before .before .args in (
-      rw (c .character-size .ensures) (sym (ending-next (l .left) (a .chart .now) (l .end) (search needs)) ∙ l .inv .0),
-      omega (arith, c .character-size .ensures, size-most (getD (a .chart .now) (l .end) 0), l .inv .1),
+      rw (c .character-bytes .ensures) (sym (ending-next (l .left) (a .chart .now) (l .end) (search needs)) ∙ l .inv .0),
+      omega (arith, c .character-bytes .ensures, bytes-most (getD (a .chart .now) (l .end) 0), l .inv .1),
     )
 
 returns : tie.Need-returns Inv-loop μ-loop
@@ -55,7 +55,7 @@ text-end-spec =
     Inv-loop
     μ-loop
     loop-holds
-    character-size-requires
+    character-bytes-requires
     add-end
     sub-left
     loop-less

@@ -1,10 +1,10 @@
--- `label::character_size`: past the chart's end there is no C2.
+-- `label::character_bytes`: past the chart's end there is no C2.
 -- Assumes nothing.
 use lib.ListN.{List·getD-eq-default}
 use borrow.Author.Tests.{eq-eqb, ne-eqb}
 use borrow.Author.Needs.{needs}
-use Rattle.path.proofs.label.character_size.Statement.{statement}
-use Rattle.path.proofs.label.character_size.Tie as tie
+use Rattle.path.proofs.label.character_bytes.Statement.{statement}
+use Rattle.path.proofs.label.character_bytes.Tie as tie
 
 shared-slice-read-if2 : tie.Need-shared-slice-read-if2
 shared-slice-read-if2 c = search needs
@@ -18,5 +18,5 @@ returns-2 c = rw (ne-eqb _ _ (c .if2 .left))
 returns-3 : tie.Need-returns-3
 returns-3 c = rw (List·getD-eq-default (c .before .args .chart .now) 0 (c .if1 .left))
 
-pub character-size-spec : {M : Type 1} → statement M
-character-size-spec = tie.close (tie.spec shared-slice-read-if2 returns returns-2 returns-3)
+pub character-bytes-spec : {M : Type 1} → statement M
+character-bytes-spec = tie.close (tie.spec shared-slice-read-if2 returns returns-2 returns-3)
