@@ -4,13 +4,13 @@ use Prim.Native.Nat.{ℕ, zero, suc, _+_, _-_, _*_, _≤_, _<_}
 use native.Mathlib.Omega.{arith}
 use native.Mathlib.Numerals.{add-one}
 use native.Mathlib.Nat.{mul-suc}
-use mathlib.Core.Path.{_≡_, refl, ap, sym, _∙_}
+use mathlib.Core.Path.{_≡_, refl, ap, _∙_}
 use mathlib.Core.Bool.{Bool, true, false, cond, _&&_}
-use mathlib.Core.List.{List, [], _∷_, _++_}
+use mathlib.Core.List.{List, [], _∷_}
 use lib.Dec.{eqb, leb, ltb}
 use lib.ListN.{length, getD, take, drop}
 use lib.Seq.{drop-cons}
-use borrow.Author.Tests.{ltb-true, ltb-false, leb-true, eqb-true, ne-eqb}
+use borrow.Author.Tests.{ltb-true, leb-true, eqb-true, ne-eqb}
 use Rattle.chart.specs.Chart.{Part, End, Node, Counts, Board, endsOf, Refusal, Got, got, refused, _then_, byte, many, isText, textByte, characters, text, end, counts, items, body, entry, bodies, byteC2, byteB0}
 use Rattle.chart.specs.Text.{Texted, empty, plain, degree, charactersIn, characterBytes, ending}
 use Rattle.laws.specs.Lists.{All}
@@ -56,8 +56,11 @@ text-low b e = go (leb 32 b) (leb b 126) refl e
     go true false h q = let z : _≡_ {A = ℕ} 0 1 = cc in absurd (omega arith)
     go false d h q = let z : _≡_ {A = ℕ} 0 1 = cc in absurd (omega arith)
 
+pub low-no-sign : (b : ℕ) → b ≤ 126 → eqb b byteC2 ≡ false
+low-no-sign b l = ne-eqb b byteC2 (λ e. omega arith)
+
 pub text-no-sign : (b : ℕ) → isText b ≡ true → eqb b byteC2 ≡ false
-text-no-sign b e = ne-eqb b byteC2 (λ h. omega (arith, text-low b e))
+text-no-sign b e = low-no-sign b (text-low b e)
 
 -- a character that is no degree sign, and the others
 pub counted-plain : (b : ℕ) (t : List ℕ) → eqb b byteC2 ≡ false → charactersIn (b ∷ t) ≡ suc (charactersIn t)

@@ -28,7 +28,7 @@ use Rattle.chart.specs.declared.reader.Nodes.{Nodes}
 use Rattle.chart.specs.Tables.{itemOf, lineOf}
 use Rattle.chart.specs.code.Filled.{emptyTable, emptyLines, emptyBoard, pushed, pushedLine, pushAll, pushLines, withNode, withNodes}
 use Rattle.chart.specs.code.Steps.{characterAt, stepOf, skipOf, spanOf, endOf, endsOf, textsOf, countsOf, itemsRead, nodeOf, nodesOf, skips, reads-ends, reads-texts}
-use Rattle.chart.proofs.Gives.{Gives, gives-then, gives-if, gives-or, gives-unless, Byte, byte-gives, text-no-sign}
+use Rattle.chart.proofs.Gives.{Gives, gives-then, gives-if, gives-or, gives-unless, Byte, byte-gives, low-no-sign, text-no-sign}
 
 -- a refusal's number is not 0
 pub number-some : (r : Refusal) → numberOf r ≡ 0 → ⊥
@@ -48,14 +48,11 @@ module _ (left : ℕ) (s : List ℕ) (at : ℕ) where
     abbrev first : ℕ
     first = getD s at 0
 
-    no-sign : first ≤ 126 → eqb first byteC2 ≡ false
-    no-sign l = ne-eqb first byteC2 (λ e. omega arith)
-
     pub step-low : first < 32 → characterAt left s at ≡ refused notText
-    step-low l = rw (lt-ltb at (length s) h, no-sign (omega arith), lt-leb 32 first l)
+    step-low l = rw (lt-ltb at (length s) h, low-no-sign first (omega arith), lt-leb 32 first l)
 
     pub step-text : 32 ≤ first → first ≤ 126 → characterAt left s at ≡ got 1 (at + 1)
-    step-text l m = rw (lt-ltb at (length s) h, no-sign m, le-leb 32 first l, le-leb first 126 m)
+    step-text l m = rw (lt-ltb at (length s) h, low-no-sign first m, le-leb 32 first l, le-leb first 126 m)
 
     pub step-high : 32 ≤ first → 126 < first → (first ≡ byteC2 → ⊥) → characterAt left s at ≡ refused notText
     step-high l m n = rw (lt-ltb at (length s) h, ne-eqb first byteC2 n, le-leb 32 first l, lt-leb first 126 m)

@@ -34,7 +34,7 @@ use Rattle.path.specs.Segments.{drawnOf}
 use Rattle.path.specs.Answers.{sheetAnswer, givenOf, writtenOf, leftOf, givenNumbers, countNumbers, writtenNumbers}
 use Rattle.path.specs.Reader.{Answer, read}
 use Rattle.path.specs.Promises.{SheetText, IsSegment}
-use Rattle.path.specs.Label.{LabelText, labelSpanOf}
+use Rattle.path.specs.Label.{tabled, LabelText, labelSpanOf}
 use Rattle.margalhosa.specs.declared.OrderResult.{OrderResult}
 use Rattle.margalhosa.specs.declared.SheetResult.{SheetResult}
 use Rattle.margalhosa.specs.declared.BoxResult.{BoxResult}
@@ -137,7 +137,7 @@ pub record IsPartResult (s t : List ℕ) (l : Labelled) (r : PartResult) : Type 
   pub in-chart : r .fixed ≡ 0 → r .at + r .len ≤ length s
   pub in-table : r .fixed ≡ 1 → r .at + r .len ≤ length t
   -- text bytes and whole degree signs, as many characters as the label is wide
-  pub text : LabelText s t l
+  pub text : LabelText s t (tabled t l)
 
 -- ---- the signal order
 abbrev pub orderResult : SignalOrder → OrderResult

@@ -1,8 +1,8 @@
 -- The label calls: the table is judged after 1 to 14; a label's part lies within the chart or the table, and its characters are the label's width.
 -- Assumes nothing.
-use Prim.Native.Nat.{ℕ, _+_, _-_, _*_, _≤_, _<_}
+use Prim.Native.Nat.{ℕ, _+_, _-_, _≤_, _<_}
 use native.Mathlib.Omega.{arith}
-use mathlib.Core.Path.{_≡_, refl, sym, ap, _∙_, subst}
+use mathlib.Core.Path.{_≡_, refl, sym, ap, _∙_}
 use mathlib.Core.Bool.{Bool, true, false, cond}
 use mathlib.Core.List.{List}
 use lib.Dec.{ltb, leb}
@@ -11,17 +11,17 @@ use borrow.Author.Tests.{le-leb, ltb-true, ltb-false}
 use Rattle.laws.specs.Bytes.{same}
 use Rattle.laws.proofs.Lists.{same-true}
 use Rattle.chart.specs.declared.Answer.the-variants.{Ready, Refused}
-use Rattle.chart.specs.Text.{Texted, empty, charactersIn, ending}
+use Rattle.chart.specs.Text.{empty, ending}
 use Rattle.chart.proofs.Gives.{ending-from}
 use Rattle.grid.specs.declared.LabelPlace.{LabelPlace}
 use Rattle.grid.specs.declared.LabelOutcome.{LabelOutcome}
-use Rattle.grid.specs.Labels.{characterWidth, noLabel}
+use Rattle.grid.specs.Labels.{noLabel}
 use Rattle.grid.specs.Labelled.{Labelled, ready, refusal, labelled, labelOutcomeOf}
 use Rattle.grid.proofs.LabelPlaces.{Lies, labelled-lies}
 use Rattle.path.specs.declared.label.Span.{Span}
 use denote.Ref.{RefT}
 use Rattle.path.specs.declared.LabelSpan.{LabelSpan}
-use Rattle.path.specs.Label.{Place, chart, table, partAt, Within, textAt, IsAt, standIn, standInsTo, standIns, standInSpan, tabled, answerIn, placeIn, labelAnswerOf, labelPartOf, LabelText, IsLabelPart, spanIn, labelSpanOf, IsLabelSpan}
+use Rattle.path.specs.Label.{chart, table, partAt, textAt, IsAt, standIn, standInsTo, standIns, standInSpan, tabled, answerIn, placeIn, labelPartOf, LabelText, IsLabelPart, spanIn, labelSpanOf, IsLabelSpan}
 use Rattle.path.proofs.Labels.{stand-ins-long, stand-in-reads, stand-in-low, stand-in-high, stand-in-texted, stand-in-counted}
 
 -- ---- the table
@@ -143,18 +143,12 @@ refused-span s (refusal i j) r a b e f =
     rw g
 
 -- ---- the part: within the chart or the table, text, and as wide as the label
--- what `LabelText` says, of a label whose table is judged
-record Stands (s t : List ℕ) (v : Labelled) : Type 0 where
-  within : Within (length s) (length t) (placeIn s v)
-  texted : Texted (textAt s t (placeIn s v))
-  wide : answerIn v .width ≡ characterWidth (answerIn v .size) * charactersIn (textAt s t (placeIn s v))
-
-refused-stands : (s t : List ℕ) (i j : ℕ) → Stands s t (refusal i j)
-refused-stands s t i j = record { within = (omega arith, omega arith); texted = empty; wide = refl }
+refused-text : (s t : List ℕ) (i j : ℕ) → LabelText s t (refusal i j)
+refused-text s t i j = record { within = (omega arith, omega arith); texted = empty; wide = refl }
 
 -- one of the fixed texts
-fixed-stands : (s t : List ℕ) (p : LabelPlace) → Lies s p → same t standIns ≡ true → p .fixed ≡ true → Stands s t (ready p)
-fixed-stands s t p l f e =
+fixed-text : (s t : List ℕ) (p : LabelPlace) → Lies s p → same t standIns ≡ true → p .fixed ≡ true → LabelText s t (ready p)
+fixed-text s t p l f e =
     let q : ℕ = p .number in
     let is : t ≡ standIns = same-true t standIns f in
     let w : length (standInsTo q) + length (standIn q) ≤ 86 = span-within q (l .below e) (ltb q 10) refl in
@@ -168,8 +162,8 @@ fixed-stands s t p l f e =
     }
 
 -- a text of the chart
-given-stands : (s t : List ℕ) (p : LabelPlace) → Lies s p → p .fixed ≡ false → Stands s t (ready p)
-given-stands s t p l e =
+given-text : (s t : List ℕ) (p : LabelPlace) → Lies s p → p .fixed ≡ false → LabelText s t (ready p)
+given-text s t p l e =
     let h = l .whole e in
     record {
       within = rw e (ending-from (p .len) s (p .at), h .inside);
@@ -177,19 +171,17 @@ given-stands s t p l e =
       wide = rw (e, h .counted) (l .wide ∙ rw e);
     }
 
-place-stands : (s t : List ℕ) (p : LabelPlace) → Lies s p → same t standIns ≡ true → (b : Bool) → p .fixed ≡ b → Stands s t (ready p)
-place-stands s t p l f true e = fixed-stands s t p l f e
-place-stands s t p l f false e = given-stands s t p l e
+place-text : (s t : List ℕ) (p : LabelPlace) → Lies s p → same t standIns ≡ true → (b : Bool) → p .fixed ≡ b → LabelText s t (ready p)
+place-text s t p l f true e = fixed-text s t p l f e
+place-text s t p l f false e = given-text s t p l e
 
-label-stands : (s t : List ℕ) (v : Labelled) → ((p : LabelPlace) → v ≡ ready p → Lies s p) → (b : Bool) → same t standIns ≡ b → Stands s t (tabled t v)
-label-stands s t (ready p) h true e = rw e (place-stands s t p (h p refl) e (p .fixed) refl)
-label-stands s t (ready p) h false e = rw e (refused-stands s t 15 0)
-label-stands s t (refusal i j) h b e = refused-stands s t i j
+tabled-text : (s t : List ℕ) (v : Labelled) → ((p : LabelPlace) → v ≡ ready p → Lies s p) → (b : Bool) → same t standIns ≡ b → LabelText s t (tabled t v)
+tabled-text s t (ready p) h true e = rw e (place-text s t p (h p refl) e (p .fixed) refl)
+tabled-text s t (ready p) h false e = rw e (refused-text s t 15 0)
+tabled-text s t (refusal i j) h b e = refused-text s t i j
 
-label-text : (s t : List ℕ) (x y k i : ℕ) → LabelText s t (labelled s x y k i)
-label-text s t x y k i =
-    let h = label-stands s t (labelled s x y k i) (λ p e. labelled-lies s x y k i p e) (same t standIns) refl in
-    record { within = h .within; texted = h .texted; wide = h .wide }
+label-text : (s t : List ℕ) (x y k i : ℕ) → LabelText s t (tabled t (labelled s x y k i))
+label-text s t x y k i = tabled-text s t (labelled s x y k i) (λ p e. labelled-lies s x y k i p e) (same t standIns) refl
 
 pub is-label-part : (s t : RefT (List ℕ)) (x y k i : ℕ) (r : RefT (List ℕ)) → IsAt (labelPartOf (s .now) (t .now) (labelled (s .now) x y k i)) s t r →
     IsLabelPart s t (labelled (s .now) x y k i) r

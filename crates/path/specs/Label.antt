@@ -86,19 +86,19 @@ placeIn s (refusal number second) = chart 0 0
 abbrev pub labelPartOf : List ℕ → List ℕ → Labelled → Place
 labelPartOf s t l = placeIn s (tabled t l)
 
--- what is so of the part, of every label and where it is refused
-pub record LabelText (s t : List ℕ) (l : Labelled) : Type 0 where
+-- what is so of the part of every label v whose table was judged, of a refused one too
+pub record LabelText (s t : List ℕ) (v : Labelled) : Type 0 where
   -- it lies within the chart or the table
-  pub within : Within (length s) (length t) (labelPartOf s t l)
+  pub within : Within (length s) (length t) (placeIn s v)
   -- it is text bytes and degree signs, both bytes of each
-  pub texted : Texted (textAt s t (labelPartOf s t l))
-  -- 'The rule for widths moves from bytes to characters': the label is as wide as these
-  pub wide : labelAnswerOf t l .width ≡ characterWidth (labelAnswerOf t l .size) * charactersIn (textAt s t (labelPartOf s t l))
+  pub texted : Texted (textAt s t (placeIn s v))
+  -- 'The rule for widths moves from bytes to characters': the label is as wide as the part's characters
+  pub wide : answerIn v .width ≡ characterWidth (answerIn v .size) * charactersIn (textAt s t (placeIn s v))
 
 -- `label_part`, where the chart s and the table t are lent: the part itself
 pub record IsLabelPart (s t : RefT (List ℕ)) (l : Labelled) (r : RefT (List ℕ)) : Type 0 where
   pub is : IsAt (labelPartOf (s .now) (t .now) l) s t r
-  pub text : LabelText (s .now) (t .now) l
+  pub text : LabelText (s .now) (t .now) (tabled (t .now) l)
 
 -- the same part in numbers, for a caller that can't be handed a part: where it begins in the chart or in the table, and how many bytes it has
 abbrev pub spanIn : Answer → Place → LabelSpan
@@ -112,4 +112,4 @@ labelSpanOf s t l = spanIn (labelAnswerOf t l .answer) (labelPartOf s t l)
 -- `label_span`
 pub record IsLabelSpan (s t : List ℕ) (l : Labelled) (r : LabelSpan) : Type 0 where
   pub whole : r ≡ labelSpanOf s t l
-  pub text : LabelText s t l
+  pub text : LabelText s t (tabled t l)
