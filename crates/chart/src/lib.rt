@@ -11,6 +11,11 @@ mod judge;
 mod reader;
 mod tables;
 
+// The two bytes of a degree sign.
+pub const BYTE_C2: u8 = 0xc2;
+
+pub const BYTE_B0: u8 = 0xb0;
+
 // A source or a sink: its node, its target, its text's place in the chart, and how many characters that has.
 pub struct Item {
     pub owner: u8,

@@ -6,6 +6,7 @@ ghost use Rattle.laws.specs.Bytes.{same};
 ghost use Rattle.chart.specs.Text.{characterBytes, ending};
 ghost use Rattle.grid.specs.Labels.{noLabel};
 ghost use Rattle.path.specs.Label.{partAt, IsAt, standIns, standInSpan};
+use chart::BYTE_C2;
 use grid::LabelPlace;
 
 // From `at` up to `end`.
@@ -38,7 +39,7 @@ fn character_bytes(chart: &[u8], at: usize) -> usize
     ensures { λ r. ⌜ r ≡ characterBytes (getD (now (chart .entry)) at 0) ⌝ }
 {
     if at < chart.len() {
-        if chart[at] == 0xc2 {
+        if chart[at] == BYTE_C2 {
             return 2;
         }
     }
