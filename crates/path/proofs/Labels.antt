@@ -5,7 +5,7 @@ use mathlib.Core.Path.{_≡_, refl, sym, ap, _∙_}
 use mathlib.Core.Bool.{Bool, true, false, cond, _&&_}
 use mathlib.Core.List.{List, [], _∷_}
 use native.Mathlib.Numerals.{add-one}
-use borrow.Author.Tests.{eqb-true, lt-ltb, le-ltb}
+use borrow.Author.Tests.{eqb-true, eq-eqb, ne-eqb, lt-ltb, le-ltb}
 use lib.Dec.{eqb, ltb}
 use lib.ListN.{length, getD, take, drop}
 use lib.Seq.{take-suc, take-length}
@@ -22,6 +22,12 @@ use Rattle.path.specs.Label.{standIn, standInsTo, standIns}
 use Rattle.path.proofs.Readings.{both}
 
 -- ---- the end of a text
+pub sign-bytes : (b : ℕ) → b ≡ byteC2 → 2 ≡ characterBytes b
+sign-bytes b e = rw (eq-eqb b byteC2 e)
+
+pub other-bytes : (b : ℕ) → (b ≡ byteC2 → ⊥) → 1 ≡ characterBytes b
+other-bytes b n = rw (ne-eqb b byteC2 n)
+
 pub ending-next : (left : ℕ) (s : List ℕ) (at : ℕ) → 0 < left → ending left s at ≡ ending (left - 1) s (at + characterBytes (getD s at 0))
 unfolding ending
 ending-next left s at h = one-more (λ (k : ℕ). ending k s at) left h
