@@ -1,6 +1,7 @@
 /* The functions for C, each called on every chart of a list; compiled as C and as C++. Standard input: charts, one hexadecimal
-   line each. Standard output: the listing of each with its labels and curves and an empty line, as the program `full` prints it.
-   A check that fails is said on standard error, with exit status 1; else that has one line, how many charts there were. */
+   line each, in the strict setting or, where the line begins with `D`, in the default one. Standard output: the listing of each
+   with its labels and curves and an empty line, as the program `full` prints it. A check that fails is said on standard error,
+   with exit status 1; else that has one line, how many charts there were. */
 #include <stdio.h>
 #include <stdlib.h>
 #include <string.h>
@@ -11,6 +12,7 @@ enum { CHART = 8192, TEXT = 65536, LIMIT = 8388608, MARK = 0xa5 };
 
 static const uint8_t *const table = (const uint8_t *)MARGALHOSA_TABLE;
 static unsigned long charts;
+static uint32_t setting; /* of the chart's calls */
 
 static void need(int ok, const char *what) {
     if (ok) return;
@@ -33,6 +35,17 @@ static int no_box(margalhosa_box_record b) { return !(b.x | b.y | b.width | b.he
 
 static int same_box(margalhosa_box_record a, margalhosa_box_record b) {
     return a.x == b.x && a.y == b.y && a.width == b.width && a.height == b.height && a.column == b.column && a.row == b.row;
+}
+
+static int same_sheet(const margalhosa_sheet_result *a, const margalhosa_sheet_result *b) {
+    const margalhosa_sheet_record *s = &a->sheet, *t = &b->sheet;
+    int same = a->refused == b->refused && a->second == b->second && s->width == t->width && s->height == t->height && s->x == t->x &&
+               s->y == t->y && s->columns == t->columns && s->rows == t->rows && s->cuts == t->cuts && s->count == t->count && s->drawn == t->drawn;
+    for (int i = 0; i < 48; i++) same &= same_box(s->boxes[i], t->boxes[i]);
+    for (int i = 0; i < 88; i++)
+        same &= s->curves[i].x0 == t->curves[i].x0 && s->curves[i].y0 == t->curves[i].y0 && s->curves[i].x1 == t->curves[i].x1 &&
+                s->curves[i].y1 == t->curves[i].y1;
+    return same;
 }
 
 static int no_sheet(const margalhosa_sheet_record *s) {
@@ -78,8 +91,8 @@ static int same_part(margalhosa_part_result a, margalhosa_part_result b) {
 /* Neither call finds the label: the refusal's two numbers. */
 static int no_label(const uint8_t *chart, size_t n, uint32_t x, const uint8_t *t, size_t m, uint32_t k, uint32_t i, uint32_t number,
                     uint32_t second) {
-    return refused_label(margalhosa_label_place(chart, n, x, 0, t, m, k, i), number, second) &&
-           refused_part(margalhosa_label_part(chart, n, x, 0, t, m, k, i), number, second);
+    return refused_label(margalhosa_label_place(chart, n, x, 0, setting, t, m, k, i), number, second) &&
+           refused_part(margalhosa_label_part(chart, n, x, 0, setting, t, m, k, i), number, second);
 }
 
 /* ---- the text of a segment, written here from its pen positions: an independent hand */
@@ -177,14 +190,14 @@ static const uint8_t *wrong_table(void) {
 static margalhosa_part_result label(const uint8_t *chart, size_t n, margalhosa_sheet_record s, uint32_t k, uint32_t i) {
     const size_t size = MARGALHOSA_TABLE_LENGTH;
     uint32_t x = LIMIT - s.width, y = LIMIT - s.height;
-    margalhosa_label_result l = margalhosa_label_place(chart, n, 0, 0, table, size, k, i);
-    margalhosa_part_result p = margalhosa_label_part(chart, n, 0, 0, table, size, k, i);
+    margalhosa_label_result l = margalhosa_label_place(chart, n, 0, 0, setting, table, size, k, i);
+    margalhosa_part_result p = margalhosa_label_part(chart, n, 0, 0, setting, table, size, k, i);
     need(l.refused == 0 && l.second == 0 && p.refused == 0 && p.second == 0, "a label is there");
     need((uint64_t)p.at + p.len <= (p.fixed ? size : n), "a label's text is a part");
     const uint8_t *part = (p.fixed ? table : chart) + p.at;
     printf("text %u %u %u %u %u %u %.*s\n", k, i, l.x, l.y, l.size, l.width, (int)p.len, (const char *)part);
-    need(same_label(margalhosa_label_place(chart, n, x, y, table, size, k, i), l), "the origin is not added to a label");
-    need(same_part(margalhosa_label_part(chart, n, x, y, table, size, k, i), p), "a label's text at another origin");
+    need(same_label(margalhosa_label_place(chart, n, x, y, setting, table, size, k, i), l), "the origin is not added to a label");
+    need(same_part(margalhosa_label_part(chart, n, x, y, setting, table, size, k, i), p), "a label's text at another origin");
     need(no_label(chart, n, 0, table, size - 1, k, i, 15, 0), "a table that isn't the fixed texts: 15");
     need(no_label(chart, n, 0, wrong_table(), size, k, i, 15, 0), "a table with one wrong byte: 15");
     return p;
@@ -271,16 +284,16 @@ static void check_moved(margalhosa_sheet_record s, margalhosa_sheet_record there
 static void check_origin(const uint8_t *chart, size_t n, margalhosa_sheet_record s) {
     static uint8_t text[TEXT];
     uint32_t x = LIMIT - s.width, y = LIMIT - s.height;
-    margalhosa_sheet_result r = margalhosa_sheet(chart, n, x, y);
+    margalhosa_sheet_result r = margalhosa_sheet(chart, n, x, y, setting);
     need(r.refused == 0 && r.sheet.x == x && r.sheet.y == y && r.sheet.count == s.count && r.sheet.drawn == s.drawn, "a sheet at the last origin");
     for (uint32_t k = 0; k < s.count; k++) need(same_box(r.sheet.boxes[k], s.boxes[k]), "the origin is not added to a box");
     size_t size = check_text(r.sheet, text);
     need(size <= MARGALHOSA_TEXT_MOST, "the longest text");
     check_segments(r.sheet, text, size);
     check_moved(s, r.sheet);
-    r = margalhosa_sheet(chart, n, x + 1, y);
+    r = margalhosa_sheet(chart, n, x + 1, y, setting);
     need(r.refused == 14 && r.second == 0 && no_sheet(&r.sheet), "an origin too far across: 14");
-    r = margalhosa_sheet(chart, n, x, UINT32_MAX);
+    r = margalhosa_sheet(chart, n, x, UINT32_MAX, setting);
     need(r.refused == 14 && r.second == 0 && no_sheet(&r.sheet), "an origin too far down: 14");
     need(no_label(chart, n, x + 1, table, 0, 0, 0, 14, 0), "a label at an origin too far: 14 before 15");
 }
@@ -333,6 +346,49 @@ static void refused(const uint8_t *chart, size_t n, margalhosa_sheet_result r) {
     need(no_label(chart, n, 0, table, 0, 0, 0, r.refused, r.second), "a label of a refused chart, no table: its refusal");
 }
 
+/* ---- the settings */
+static const uint32_t others[] = {2, 3, 256, UINT32_MAX};
+
+/* Strict is the default but for 12, and any other number is strict; the strict answer is handed back. */
+static margalhosa_sheet_result check_settings(const uint8_t *chart, size_t n) {
+    margalhosa_sheet_result strict = margalhosa_sheet(chart, n, 0, 0, MARGALHOSA_STRICT);
+    margalhosa_sheet_result usual = margalhosa_sheet(chart, n, 0, 0, MARGALHOSA_DEFAULT);
+    need(usual.refused != 12, "the default setting never refuses by 12");
+    if (strict.refused == 12)
+        need(usual.refused == 0 || usual.refused == 13, "a lead to nothing: drawn by default, or 13");
+    else
+        need(same_sheet(&strict, &usual), "a chart without such a lead: the same in both settings");
+    for (size_t i = 0; i < sizeof others / sizeof others[0]; i++) {
+        margalhosa_sheet_result r = margalhosa_sheet(chart, n, 0, 0, others[i]);
+        need(same_sheet(&strict, &r), "any other setting is strict: the sheet");
+    }
+    return strict;
+}
+
+/* A lead to 200, a part taken out: drawn by default, with a box of its own; refused in the strict setting and in any other. */
+static void check_lead(void) {
+    static const uint8_t chart[] = {1, 1, 4, 0, 0, 0, 1, 200, 0};
+    const size_t n = sizeof chart, size = MARGALHOSA_TABLE_LENGTH;
+    margalhosa_sheet_result r = margalhosa_sheet(chart, n, 0, 0, MARGALHOSA_DEFAULT);
+    need(r.refused == 0 && r.sheet.count == 2 && r.sheet.cuts == 0 && r.sheet.width == 3968 && r.sheet.height == 3328, "a lead to nothing: its sheet");
+    margalhosa_label_result l = margalhosa_label_place(chart, n, 0, 0, MARGALHOSA_DEFAULT, table, size, 1, 0);
+    need(l.refused == 0 && l.x == 320 && l.y == 3008 && l.size == 464 && l.width == 3328, "a lead to nothing: its label's place");
+    margalhosa_part_result p = margalhosa_label_part(chart, n, 0, 0, MARGALHOSA_DEFAULT, table, size, 1, 0);
+    need(p.refused == 0 && p.fixed == 1 && p.len == 13 && p.at + p.len <= size && memcmp(table + p.at, "#200(invalid)", 13) == 0,
+         "a lead to nothing: its label's text");
+    setting = MARGALHOSA_DEFAULT;
+    need(no_label(chart, n, 0, table, 86, 1, 0, 15, 0), "the table of #0 to #31 alone: 15");
+    need(no_label(chart, n, 0, table, size, 1, 1, 15, 0), "a lead to nothing: one label");
+    setting = MARGALHOSA_STRICT;
+    need(no_label(chart, n, 0, table, size, 1, 0, 12, 200), "a lead to nothing, strict: 12 and the target");
+    for (size_t i = 0; i < sizeof others / sizeof others[0]; i++) {
+        setting = others[i];
+        need(no_label(chart, n, 0, table, size, 1, 0, 12, 200), "any other setting is strict: the labels");
+    }
+    r = check_settings(chart, n);
+    need(r.refused == 12 && r.second == 200 && no_sheet(&r.sheet), "a lead to nothing, strict: its sheet is refused");
+}
+
 /* ---- the signal order */
 /* The nodes that lead to each, as bits: p leads to q if p has a sink to q or q a source from p. */
 static void leading(const uint8_t *chart, uint32_t n, uint32_t to[32]) {
@@ -368,7 +424,7 @@ static void check_cycle(margalhosa_order_result o, const uint32_t to[32]) {
         need(to[o.nodes[(i + 1) % o.count]] >> o.nodes[i] & 1, "each node of a cycle has a sink to the next, the last to the first");
 }
 
-/* r: the answer for the sheet of the same chart. */
+/* r: the answer for the sheet of the same chart, in the strict setting, in which the order reads it. */
 static void check_order(const uint8_t *chart, size_t n, margalhosa_sheet_result r) {
     margalhosa_order_result o = margalhosa_signal_order(chart, n);
     need(o.count <= 32, "an order's count");
@@ -407,10 +463,12 @@ static void check_reader(const char *text, uint32_t number, uint64_t second) {
 /* ---- the list */
 static int digit(int c) { return c >= '0' && c <= '9' ? c - '0' : c >= 'a' && c <= 'f' ? c - 'a' + 10 : -1; }
 
-/* The bytes of the next line, the first CHART of them; 0 at the end of the list. */
+/* The bytes of the next line, the first CHART of them, and its setting; 0 at the end of the list. */
 static int next_chart(uint8_t *chart, size_t *n) {
     int c = getchar();
     if (c == EOF) return 0;
+    setting = c == 'D' ? MARGALHOSA_DEFAULT : MARGALHOSA_STRICT;
+    if (c == 'D') c = getchar();
     for (*n = 0; c != '\n' && c != EOF; c = getchar()) {
         int high = digit(c), low = digit(getchar());
         need(high >= 0 && low >= 0, "the list is not hexadecimal");
@@ -427,15 +485,16 @@ int main(void) {
     check_reader("M 8388609 1", 18, 2);
     check_reader("Z", 19, 0);
     check_accepted();
+    check_lead();
     while (next_chart(chart, &n)) {
-        margalhosa_sheet_result r = margalhosa_sheet(chart, n, 0, 0);
+        margalhosa_sheet_result r = margalhosa_sheet(chart, n, 0, 0, setting);
         if (r.refused == 0) {
             need(r.second == 0, "a sheet's second number");
             drawn(chart, n, r.sheet);
         } else {
             refused(chart, n, r);
         }
-        check_order(chart, n, r);
+        check_order(chart, n, check_settings(chart, n));
         printf("\n");
         charts++;
     }

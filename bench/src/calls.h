@@ -3,7 +3,7 @@
 
 /* margalhosa_sheet with its hidden pointer to the result in the open. For `result = margalhosa_sheet(..)` a C compiler may take the
    2,400 bytes on the stack first and copy them. */
-void *sheet_to(margalhosa_sheet_result *, const uint8_t *, uint64_t, uint32_t, uint32_t) __asm__("margalhosa_sheet");
+void *sheet_to(margalhosa_sheet_result *, const uint8_t *, uint64_t, uint32_t, uint32_t, uint32_t) __asm__("margalhosa_sheet");
 
 static uint8_t *chart, *text;
 static uint64_t chart_length, text_room;
@@ -16,10 +16,10 @@ static const uint8_t table[MARGALHOSA_TABLE_LENGTH] = MARGALHOSA_TABLE;
 
 #define CALL __attribute__((noinline)) void
 CALL call_nothing(void) { __asm__ volatile(""); }
-CALL call_sheet(void) { sheet_to(result, chart, chart_length, 0, 0); __asm__ volatile(""); }
+CALL call_sheet(void) { sheet_to(result, chart, chart_length, 0, 0, MARGALHOSA_DEFAULT); __asm__ volatile(""); }
 CALL call_text(void) { written = margalhosa_text(result->sheet, text, text_room); }
 CALL call_segment(void) { segment = margalhosa_segment(result->sheet, 5 * result->sheet.count + 2 * result->sheet.drawn - 1); }
-CALL call_label_place(void) { label = margalhosa_label_place(chart, chart_length, 0, 0, table, sizeof table, 0, 0); }
+CALL call_label_place(void) { label = margalhosa_label_place(chart, chart_length, 0, 0, MARGALHOSA_DEFAULT, table, sizeof table, 0, 0); }
 CALL call_signal_order(void) { order = margalhosa_signal_order(chart, chart_length); }
 CALL call_done(void) { __asm__ volatile(""); }
 #define CALLS 5

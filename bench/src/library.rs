@@ -51,12 +51,12 @@ pub struct CountResult {
 }
 
 unsafe extern "C" {
-    fn margalhosa_sheet(chart: *const u8, length: u64, x: u32, y: u32) -> SheetResult;
+    fn margalhosa_sheet(chart: *const u8, length: u64, x: u32, y: u32, setting: u32) -> SheetResult;
     fn margalhosa_text(sheet: Sheet, buffer: *mut u8, length: u64) -> CountResult;
 }
 
 pub fn sheet(chart: &[u8]) -> SheetResult {
-    unsafe { margalhosa_sheet(chart.as_ptr(), chart.len() as u64, 0, 0) }
+    unsafe { margalhosa_sheet(chart.as_ptr(), chart.len() as u64, 0, 0, 1) }
 }
 
 pub fn text(sheet: &Sheet, buffer: &mut [u8]) -> CountResult {

@@ -13,6 +13,8 @@ use generate::Random;
 
 const KEPT: usize = 12;
 const BATCH: usize = 24;
+/// The target of a lead to nothing: no node has this number.
+const NOTHING: u8 = 200;
 
 /// What a chart takes. If its sheet is refused, all 0 but for the stack and the signal order.
 #[derive(Clone, Copy, Default)]
@@ -22,6 +24,7 @@ struct Taken {
     order_cycles: u64,
     stack: u64,
     boxes: u64,
+    leads: u64,
     text: u64,
     pairs: u64,
 }
@@ -29,9 +32,10 @@ struct Taken {
 type Measure = fn(&Taken) -> u64;
 
 /// Names of the charts looked for, and what each has the most of.
-const LOOKED_FOR: [(&str, Measure); 7] = [
+const LOOKED_FOR: [(&str, Measure); 8] = [
     ("slow", |t| t.cycles),
     ("slow48", |t| if t.boxes == 48 { t.cycles } else { 0 }),
+    ("slowlead", |t| if t.leads > 0 { t.cycles } else { 0 }),
     ("pairs", |t| t.pairs),
     ("text", |t| t.text),
     ("slowtext", |t| t.text_cycles),
@@ -71,6 +75,11 @@ fn any_full_list<'a>(r: &mut Random, bodies: &'a mut Chart) -> Option<&'a mut Ve
     Some(lists.swap_remove(i))
 }
 
+/// A node, or nothing.
+fn any_target(r: &mut Random, n: usize) -> u8 {
+    if r.chance(6) { NOTHING } else { r.below(n) as u8 }
+}
+
 fn change(r: &mut Random, bodies: &mut Chart) {
     let n = bodies.len();
     match r.below(8) {
@@ -78,7 +87,7 @@ fn change(r: &mut Random, bodies: &mut Chart) {
         0 | 1 => {
             if let Some(list) = any_full_list(r, bodies) {
                 let i = r.below(list.len());
-                list[i].target = r.below(n) as u8;
+                list[i].target = any_target(r, n);
             }
         }
         // one end moved to another list, or taken out
@@ -94,7 +103,7 @@ fn change(r: &mut Random, bodies: &mut Chart) {
         // one more end
         4 | 5 => {
             if chart::edges(bodies) < MAX_EDGES {
-                let target = r.below(n) as u8;
+                let target = any_target(r, n);
                 let list = any_list(r, bodies);
                 let place = r.below(list.len() + 1);
                 list.insert(place, End { target, text: vec![] });
@@ -116,8 +125,8 @@ fn change(r: &mut Random, bodies: &mut Chart) {
             } else if n > 1 {
                 bodies.pop();
                 for body in bodies.iter_mut() {
-                    body.sources.retain(|end| usize::from(end.target) < n - 1);
-                    body.sinks.retain(|end| usize::from(end.target) < n - 1);
+                    body.sources.retain(|end| usize::from(end.target) != n - 1);
+                    body.sinks.retain(|end| usize::from(end.target) != n - 1);
                 }
             }
         }
@@ -161,7 +170,8 @@ impl Search {
             let sheet_cycles = cycles();
             if refused == 0 {
                 let (text_cycles, pairs) = (cycles(), second::pairs(bodies).expect("a chart that is drawn").1 as u64);
-                taken = Taken { cycles: sheet_cycles, text_cycles, boxes, text, pairs, ..taken };
+                let leads = chart::leads(bodies) as u64;
+                taken = Taken { cycles: sheet_cycles, text_cycles, boxes, leads, text, pairs, ..taken };
             }
             taken.order_cycles = cycles();
             all.push(taken);
@@ -257,7 +267,7 @@ fn main() {
     };
     let part = |share: f64| Duration::from_secs_f64(seconds * share);
     search.begin(&mut first, part(0.1));
-    for ((_, measure), share) in LOOKED_FOR.iter().zip([0.35, 0.2, 0.0, 0.15, 0.1, 0.1, 0.0]) {
+    for ((_, measure), share) in LOOKED_FOR.iter().zip([0.25, 0.15, 0.2, 0.0, 0.1, 0.1, 0.1, 0.0]) {
         if share > 0.0 {
             search.climb(*measure, &first, part(share));
         }

@@ -3,6 +3,7 @@
 use std::hint::black_box;
 
 use answer::{arena, boxes, path};
+use chart::{Asked, Asking, Setting};
 use generate::Kind;
 use triple_arena_render::internal::grid_process;
 
@@ -34,14 +35,15 @@ fn charts(seed: u64, count: usize) -> Vec<Vec<u8>> {
         }
         let chart = generate::generated(seed, index, Kind::Sound);
         let ours = library::listing(&chart);
-        let theirs = answer::listing(&chart, chart::Asked::default());
+        let asking = Asking { setting: Setting::Strict, chart };
+        let theirs = answer::listing(&asking, Asked::default());
         if ours != theirs {
             println!("chart {index} of seed {seed} differs\nlibrary: {ours}\nthe Rust: {theirs}");
             std::process::exit(1);
         }
         // more than 48 boxes: the Rust would draw them
         if !ours.starts_with("refused 13") {
-            charts.push(chart);
+            charts.push(asking.chart);
         }
     }
     charts
@@ -63,7 +65,7 @@ fn main() {
     let charts = charts(seed, count as usize);
     let arenas: Vec<_> = charts
         .iter()
-        .map(|chart| arena(&chart::read(chart).unwrap()))
+        .map(|chart| arena(&chart::read(chart).unwrap(), Setting::Strict))
         .collect();
     let mut buffer = vec![0; 16384];
 
@@ -80,7 +82,7 @@ fn main() {
     };
     let rust_grid = |chart: &[u8]| {
         let bodies = chart::read(black_box(chart)).unwrap();
-        grid_process(&arena(&bodies), true).unwrap()
+        grid_process(&arena(&bodies, Setting::Strict), true).unwrap()
     };
     let mut rust_sheet = || {
         for chart in &charts {

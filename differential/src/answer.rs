@@ -3,8 +3,8 @@
 
 use std::panic::{AssertUnwindSafe, catch_unwind};
 
-use chart::{Asked, Body, MAX_BOXES, MAX_POSITION, Refusal};
-use triple_arena::{Arena, ptr_struct, traits::Ptr};
+use chart::{Asked, Asking, Body, MAX_BOXES, MAX_POSITION, Refusal, Setting};
+use triple_arena::{Arena, FAR, ptr_struct, traits::Ptr};
 use triple_arena_render::{
     DebugNode, RenderError,
     internal::{RenderGrid, RenderNode, grid_process},
@@ -16,11 +16,17 @@ fn text(bytes: &[u8]) -> String {
     String::from_utf8(bytes.to_vec()).expect("text bytes are 32 to 126, and 1 for a sign")
 }
 
-/// The arena of these bodies.
-pub fn arena(bodies: &[Body]) -> Arena<Node, DebugNode<Node>> {
+/// The arena of these bodies. In the default setting a target that isn't below n
+/// is a pointer that no inserted node can equal.
+pub fn arena(bodies: &[Body], setting: Setting) -> Arena<Node, DebugNode<Node>> {
+    let pointer = |target: u8| {
+        let number = usize::from(target);
+        let far = setting == Setting::Default && number >= bodies.len();
+        Node::from_number(if far { FAR + number } else { number })
+    };
     let ends = |ends: &[chart::End]| {
         ends.iter()
-            .map(|end| (Node::from_number(end.target.into()), text(&end.text)))
+            .map(|end| (pointer(end.target), text(&end.text)))
             .collect()
     };
     let mut arena = Arena::new();
@@ -34,11 +40,15 @@ pub fn arena(bodies: &[Body]) -> Arena<Node, DebugNode<Node>> {
     arena
 }
 
-/// What `grid_process` gives on these bodies: a grid, refusal 12, or the text
-/// of its panic.
-pub fn run(bodies: &[Body]) -> Result<Result<RenderGrid<Node>, Refusal>, String> {
-    let arena = arena(bodies);
-    match catch_unwind(AssertUnwindSafe(|| grid_process(&arena, true))) {
+/// What `grid_process` gives on these bodies: a grid, refusal 12 (by its flag, in
+/// the strict setting), or the text of its panic.
+pub fn run(
+    bodies: &[Body],
+    setting: Setting,
+) -> Result<Result<RenderGrid<Node>, Refusal>, String> {
+    let arena = arena(bodies, setting);
+    let flag = setting == Setting::Strict;
+    match catch_unwind(AssertUnwindSafe(|| grid_process(&arena, flag))) {
         Ok(Ok(grid)) => Ok(Ok(grid)),
         Ok(Err(RenderError::InvalidPtr(p))) => Ok(Err(Refusal(12, p.inx() as u64))),
         Ok(Err(e)) => Err(format!("{e:?}")),
@@ -167,9 +177,11 @@ pub fn boxes(grid: &RenderGrid<Node>) -> Vec<Placed<'_>> {
     boxes
 }
 
-fn sheet(grid: &RenderGrid<Node>, n: usize, asked: Asked) -> String {
+/// The listing of a grid made of so many given nodes and leads to nothing.
+fn sheet(grid: &RenderGrid<Node>, given: usize, asked: Asked) -> String {
     let count = grid.dag.len();
-    let cuts = (count - n) / 2;
+    assert!((count - given).is_multiple_of(2));
+    let cuts = (count - given) / 2;
     if count > MAX_BOXES {
         return Refusal(13, 0).line();
     }
@@ -201,13 +213,13 @@ fn sheet(grid: &RenderGrid<Node>, n: usize, asked: Asked) -> String {
 }
 
 /// Document 01's listing of a chart, or one line `panic` and its text.
-pub fn listing(chart: &[u8], asked: Asked) -> String {
-    let bodies = match chart::read(chart::listed(chart)) {
+pub fn listing(asking: &Asking, asked: Asked) -> String {
+    let bodies = match chart::read(chart::listed(&asking.chart)) {
         Ok(bodies) => bodies,
         Err(refusal) => return refusal.line(),
     };
-    match run(&bodies) {
-        Ok(Ok(grid)) => sheet(&grid, bodies.len(), asked),
+    match run(&bodies, asking.setting) {
+        Ok(Ok(grid)) => sheet(&grid, bodies.len() + chart::leads(&bodies), asked),
         Ok(Err(refusal)) => refusal.line(),
         Err(text) => format!("panic {text}\n"),
     }

@@ -1,6 +1,6 @@
-//! Charts as document 01 words them (module 1), with the degree signs of document
-//! 02: reader with refusals 1 to 11, writer, short form, hexadecimal, and what the
-//! programs share.
+//! Charts as document 01 words them (module 1), with the degree signs and the
+//! settings of document 02: reader with refusals 1 to 11, writer, short form,
+//! hexadecimal, and what the programs share.
 
 use std::io::{BufRead, Read};
 
@@ -154,6 +154,13 @@ pub fn edges(bodies: &[Body]) -> usize {
     bodies.iter().map(|b| b.sources.len() + b.sinks.len()).sum()
 }
 
+/// Leads to nothing: sources and sinks whose target isn't below n.
+pub fn leads(bodies: &[Body]) -> usize {
+    let ends = bodies.iter().flat_map(|b| b.sources.iter().chain(&b.sinks));
+    ends.filter(|end| usize::from(end.target) >= bodies.len())
+        .count()
+}
+
 /// The chart of these bodies. A count or entry that does not fit is cut to its
 /// low bits, as a damaged chart may have it.
 pub fn write(bodies: &[Body]) -> Vec<u8> {
@@ -229,10 +236,15 @@ pub fn to_hex(bytes: &[u8]) -> String {
     bytes.iter().map(|byte| format!("{byte:02x}")).collect()
 }
 
+/// Digits are in lower case, as the product reads them.
 pub fn from_hex(line: &str) -> Option<Vec<u8>> {
     let digits = line
         .chars()
-        .map(|c| c.to_digit(16).map(|d| d as u8))
+        .map(|c| {
+            c.to_digit(16)
+                .filter(|_| !c.is_ascii_uppercase())
+                .map(|d| d as u8)
+        })
         .collect::<Option<Vec<u8>>>()?;
     if !digits.len().is_multiple_of(2) {
         return None;
@@ -240,12 +252,51 @@ pub fn from_hex(line: &str) -> Option<Vec<u8>> {
     Some(digits.chunks(2).map(|d| 16 * d[0] + d[1]).collect())
 }
 
-/// Each hex line in turn to `f`. An empty line is the chart of no bytes.
-pub fn each_hex_line(input: impl BufRead, mut f: impl FnMut(Vec<u8>)) -> Result<(), String> {
+/// What the sheet and label calls do with a lead to nothing (document 02, L5).
+#[derive(Clone, Copy, Debug, PartialEq)]
+pub enum Setting {
+    /// It is drawn.
+    Default,
+    /// It is refused by 12.
+    Strict,
+}
+
+/// A chart and its setting, as a line of a list has them: hexadecimal, after `D`
+/// in the default setting.
+#[derive(Clone, Debug, PartialEq)]
+pub struct Asking {
+    pub setting: Setting,
+    pub chart: Vec<u8>,
+}
+
+impl Asking {
+    /// None if the line has another form.
+    pub fn from_line(line: &str) -> Option<Self> {
+        let (setting, digits) = match line.strip_prefix('D') {
+            Some(rest) => (Setting::Default, rest),
+            None => (Setting::Strict, line),
+        };
+        from_hex(digits).map(|chart| Self { setting, chart })
+    }
+
+    pub fn line(&self) -> String {
+        match self.setting {
+            Setting::Default => format!("D{}", to_hex(&self.chart)),
+            Setting::Strict => to_hex(&self.chart),
+        }
+    }
+}
+
+/// Each line of a list in turn to `f`. An empty line is the chart of no bytes.
+pub fn each_line(
+    input: impl BufRead,
+    mut f: impl FnMut(Asking) -> Result<(), String>,
+) -> Result<(), String> {
     for (i, line) in input.lines().enumerate() {
         let line = line.map_err(|e| e.to_string())?;
-        let chart = from_hex(&line).ok_or(format!("line {} is not hexadecimal", i + 1))?;
-        f(chart);
+        let number = i + 1;
+        let asking = Asking::from_line(&line).ok_or(format!("line {number} is not hexadecimal"))?;
+        f(asking).map_err(|message| format!("line {number}: {message}"))?;
     }
     Ok(())
 }
@@ -275,21 +326,36 @@ pub struct Asked {
     pub y: u32,
 }
 
-/// Reads one chart, or hex lines, and prints `answer` of each.
-pub fn serve(batch: bool, mut answer: impl FnMut(&[u8]) -> String) {
+/// Reads a list, or one chart in the setting, and prints `answer` of each.
+pub fn serve(
+    batch: bool,
+    setting: Setting,
+    mut answer: impl FnMut(&Asking) -> Result<String, String>,
+) {
     use std::io::Write;
     let mut out = std::io::BufWriter::new(std::io::stdout().lock());
-    if batch {
-        let done = each_hex_line(std::io::stdin().lock(), |chart| {
-            writeln!(out, "{}", answer(&chart)).expect("standard output");
-        });
-        if let Err(message) = done {
-            out.flush().expect("standard output");
-            eprintln!("{message}");
-            std::process::exit(2);
-        }
+    let done = if batch {
+        each_line(std::io::stdin().lock(), |asking| {
+            writeln!(out, "{}", answer(&asking)?).expect("standard output");
+            Ok(())
+        })
     } else {
-        write!(out, "{}", answer(&whole_input())).expect("standard output");
-    }
+        let chart = whole_input();
+        answer(&Asking { setting, chart }).map(|text| {
+            write!(out, "{text}").expect("standard output");
+        })
+    };
     out.flush().expect("standard output");
+    if let Err(message) = done {
+        eprintln!("{message}");
+        std::process::exit(2);
+    }
+}
+
+/// For a program that has the strict setting only.
+pub fn strict_only(asking: &Asking) -> Result<&[u8], String> {
+    match asking.setting {
+        Setting::Strict => Ok(&asking.chart),
+        Setting::Default => Err("stages are of the strict setting only".to_string()),
+    }
 }

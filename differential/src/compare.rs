@@ -6,16 +6,20 @@ use std::{
     process::{Command, Stdio},
 };
 
-use chart::{Asked, Body, End};
+use chart::{Asked, Asking, Body, End, Setting};
 use generate::Kind;
 
 const USAGE: &str = "compare [options] PROGRAM [ARGUMENT ..]
   --seed S     seed of the generated charts (1)
   --count N    how many (1000)
   --from I     first index (0)
-  --kind K     sound, damaged, signs (degree signs) or mixed (mixed)
+  --kind K     sound, damaged, signs (degree signs), leads (to nothing) or mixed (mixed)
   --no-small   without the graphs of up to 3 nodes and 4 edges
-  --list FILE  also the charts of a file of hex lines (may be repeated)
+  --small-leads  also the charts of `gen --small-leads`
+  --default    all these in the default setting: lines with D; without --batch the
+               program is to be told of it
+  --list FILE  also the charts of a file of hex lines (may be repeated), each in the
+               setting that its line has
   --batch      the program reads hex lines and ends each listing by an empty line;
                otherwise it is run once for each chart, on raw bytes
   --block N    charts for one run in batch mode (5000)
@@ -26,6 +30,7 @@ const USAGE: &str = "compare [options] PROGRAM [ARGUMENT ..]
 struct Program {
     command: Vec<String>,
     batch: bool,
+    setting: Setting,
     asked: Asked,
 }
 
@@ -56,17 +61,17 @@ impl Program {
     }
 
     /// One answer for each chart; None where the program gave none.
-    fn answers(&self, charts: &[Vec<u8>]) -> Vec<Option<String>> {
+    fn answers(&self, charts: &[Asking]) -> Vec<Option<String>> {
         let text = |bytes: Vec<u8>| String::from_utf8_lossy(&bytes).into_owned();
         if !self.batch {
             return charts
                 .iter()
-                .map(|chart| Some(text(self.run(chart.clone()))))
+                .map(|asking| Some(text(self.run(asking.chart.clone()))))
                 .collect();
         }
         let mut input = vec![];
-        for chart in charts {
-            input.extend(chart::to_hex(chart).into_bytes());
+        for asking in charts {
+            input.extend(asking.line().into_bytes());
             input.push(b'\n');
         }
         let output = text(self.run(input));
@@ -88,13 +93,20 @@ impl Program {
         answers
     }
 
-    fn expected(&self, chart: &[u8]) -> String {
-        answer::listing(chart, self.asked)
+    fn expected(&self, asking: &Asking) -> String {
+        answer::listing(asking, self.asked)
     }
 
-    fn differs(&self, chart: &[u8]) -> bool {
-        let answers = self.answers(std::slice::from_ref(&chart.to_vec()));
-        answers[0].as_ref() != Some(&self.expected(chart))
+    fn differs(&self, asking: &Asking) -> bool {
+        let answers = self.answers(std::slice::from_ref(asking));
+        answers[0].as_ref() != Some(&self.expected(asking))
+    }
+
+    /// These charts in the setting of the run.
+    fn all(&self, charts: Vec<Vec<u8>>) -> Vec<Asking> {
+        let setting = self.setting;
+        let one = |chart| Asking { setting, chart };
+        charts.into_iter().map(one).collect()
     }
 }
 
@@ -183,28 +195,34 @@ fn smaller(chart: &[u8]) -> Vec<Vec<u8>> {
     found
 }
 
-/// The smallest chart that steps of `smaller` lead to and that still differs.
-fn shrink(program: &Program, chart: Vec<u8>) -> Vec<u8> {
-    let mut chart = chart;
+/// The smallest chart that steps of `smaller` lead to and that still differs, in
+/// the same setting.
+fn shrink(program: &Program, asking: Asking) -> Asking {
+    let mut asking = asking;
     'again: loop {
-        for less in smaller(&chart) {
+        for chart in smaller(&asking.chart) {
+            let setting = asking.setting;
+            let less = Asking { setting, chart };
             if program.differs(&less) {
-                chart = less;
+                asking = less;
                 continue 'again;
             }
         }
-        return chart;
+        return asking;
     }
 }
 
-fn show(program: &Program, name: &str, chart: &[u8]) {
-    println!("{name}: {}", chart::to_hex(chart));
-    if let Ok(bodies) = chart::read(chart) {
+fn show(program: &Program, name: &str, asking: &Asking) {
+    println!("{name}: {}", asking.line());
+    if let Ok(bodies) = chart::read(&asking.chart) {
         println!("  {}", chart::short(&bodies));
     }
-    let answers = program.answers(std::slice::from_ref(&chart.to_vec()));
+    let answers = program.answers(std::slice::from_ref(asking));
     let ours = answers[0].clone().unwrap_or("(no answer)\n".to_string());
-    for (who, text) in [("the Rust", program.expected(chart)), ("the program", ours)] {
+    for (who, text) in [
+        ("the Rust", program.expected(asking)),
+        ("the program", ours),
+    ] {
         println!("{who}:");
         for line in text.lines() {
             println!("  {line}");
@@ -219,14 +237,17 @@ struct Tally {
     sheets: u64,
     refused: [u64; 20],
     panics: u64,
-    first: Option<Vec<u8>>,
+    /// Sheets with leads to nothing, and those of them with cuts too.
+    leads: u64,
+    leads_cuts: u64,
+    first: Option<Asking>,
 }
 
 impl Tally {
-    fn compare(&mut self, program: &Program, charts: &[Vec<u8>]) {
+    fn compare(&mut self, program: &Program, charts: &[Asking]) {
         let answers = program.answers(charts);
-        for (chart, answer) in charts.iter().zip(answers) {
-            let expected = program.expected(chart);
+        for (asking, answer) in charts.iter().zip(answers) {
+            let expected = program.expected(asking);
             if let Some(rest) = expected.strip_prefix("refused ") {
                 let number = rest.split(' ').next().and_then(|n| n.parse::<usize>().ok());
                 self.refused[number.expect("a refusal's number")] += 1;
@@ -234,12 +255,17 @@ impl Tally {
                 self.panics += 1;
             } else {
                 self.sheets += 1;
+                if chart::read(&asking.chart).is_ok_and(|bodies| chart::leads(&bodies) > 0) {
+                    let first = expected.lines().next();
+                    self.leads += 1;
+                    self.leads_cuts += u64::from(first.is_some_and(|l| !l.ends_with(" 0")));
+                }
             }
             if answer.as_ref() == Some(&expected) {
                 self.agreed += 1;
             } else {
                 self.differed += 1;
-                self.first.get_or_insert_with(|| chart.clone());
+                self.first.get_or_insert_with(|| asking.clone());
             }
         }
     }
@@ -247,11 +273,12 @@ impl Tally {
 
 fn main() {
     let (mut seed, mut count, mut from, mut block) = (1, 1000, 0, 5000);
-    let (mut kind, mut small) = (Kind::Mixed, true);
+    let (mut kind, mut small, mut small_leads) = (Kind::Mixed, true, false);
     let mut lists = vec![];
     let mut program = Program {
         command: vec![],
         batch: false,
+        setting: Setting::Strict,
         asked: Asked::default(),
     };
     let mut args = std::env::args().skip(1);
@@ -264,22 +291,21 @@ fn main() {
             "--block" => word().parse().map(|n: usize| block = n.max(1)).is_ok(),
             "--x" => word().parse().map(|n| program.asked.x = n).is_ok(),
             "--y" => word().parse().map(|n| program.asked.y = n).is_ok(),
-            "--kind" => {
-                let chosen = match word().as_str() {
-                    "sound" => Some(Kind::Sound),
-                    "damaged" => Some(Kind::Damaged),
-                    "signs" => Some(Kind::Signs),
-                    "mixed" => Some(Kind::Mixed),
-                    _ => None,
-                };
-                chosen.map(|k| kind = k).is_some()
-            }
+            "--kind" => generate::kind(&word()).map(|k| kind = k).is_some(),
             "--list" => {
                 lists.push(word());
                 true
             }
             "--no-small" => {
                 small = false;
+                true
+            }
+            "--small-leads" => {
+                small_leads = true;
+                true
+            }
+            "--default" => {
+                program.setting = Setting::Default;
                 true
             }
             "--batch" => {
@@ -315,9 +341,17 @@ fn main() {
     let mut tally = Tally::default();
     for file in &lists {
         let mut charts = vec![];
+        // a program that is run on raw bytes has one setting
+        let take = |asking: Asking| {
+            if !program.batch && asking.setting != program.setting {
+                return Err("the other setting needs --batch".to_string());
+            }
+            charts.push(asking);
+            Ok(())
+        };
         let read = std::fs::File::open(file)
             .map_err(|e| e.to_string())
-            .and_then(|f| chart::each_hex_line(std::io::BufReader::new(f), |c| charts.push(c)));
+            .and_then(|f| chart::each_line(std::io::BufReader::new(f), take));
         if let Err(message) = read {
             eprintln!("compare: {file}: {message}");
             std::process::exit(2);
@@ -328,8 +362,18 @@ fn main() {
         }
     }
     if small {
-        let charts = generate::all_small();
+        let charts = program.all(generate::all_small());
         println!("{} graphs of up to 3 nodes and 4 edges", charts.len());
+        for charts in charts.chunks(block) {
+            tally.compare(&program, charts);
+        }
+    }
+    if small_leads {
+        let charts = program.all(generate::all_small_leads());
+        println!(
+            "{} charts of up to 3 nodes, with leads to nothing",
+            charts.len()
+        );
         for charts in charts.chunks(block) {
             tally.compare(&program, charts);
         }
@@ -340,10 +384,8 @@ fn main() {
     let end = from + count;
     while from < end {
         let next = end.min(from + block as u64);
-        let charts: Vec<_> = (from..next)
-            .map(|i| generate::generated(seed, i, kind))
-            .collect();
-        tally.compare(&program, &charts);
+        let charts = (from..next).map(|i| generate::generated(seed, i, kind));
+        tally.compare(&program, &program.all(charts.collect()));
         from = next;
     }
 
@@ -357,6 +399,12 @@ fn main() {
         tally.panics,
         refused.join(", ")
     );
+    if tally.leads > 0 {
+        println!(
+            "{} sheets with leads, {} with cuts too",
+            tally.leads, tally.leads_cuts
+        );
+    }
     println!("{} agreed, {} differed", tally.agreed, tally.differed);
     if let Some(first) = tally.first {
         println!();

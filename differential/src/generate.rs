@@ -539,6 +539,223 @@ fn signed(r: &mut Random) -> Vec<u8> {
     chart
 }
 
+/// Targets of leads to nothing: all from n on.
+struct Far {
+    n: usize,
+    /// 0 each of its own, 1 all one, 2 of two, 3 n, n + 1 and so on, 4 the numbers
+    /// that the first inserted nodes have.
+    style: usize,
+    one: [usize; 2],
+    next: usize,
+}
+
+impl Far {
+    fn new(r: &mut Random, n: usize) -> Self {
+        let mut far = Self {
+            n,
+            style: 0,
+            one: [n; 2],
+            next: n,
+        };
+        far.one = [far.target(r).into(), far.target(r).into()];
+        far.style = r.below(5);
+        far.next = n;
+        far
+    }
+
+    fn target(&mut self, r: &mut Random) -> u8 {
+        let n = self.n;
+        let target = match self.style {
+            0 => match r.below(8) {
+                0 => n,
+                1 => n + 1,
+                2 | 3 => r.among(n, n + 15),
+                4 => [9, 10, 99, 100, 254, 255][r.below(6)].max(n),
+                5 => 255,
+                _ => r.among(n, 255),
+            },
+            1 => self.one[0],
+            2 => self.one[r.below(2)],
+            3 => self.next,
+            _ => r.among(n, n + 5),
+        };
+        self.next = if self.next < 255 { self.next + 1 } else { n };
+        target as u8
+    }
+}
+
+/// Puts a sink or a source at any place.
+fn put_end(r: &mut Random, body: &mut Body, sink: bool, end: End) {
+    let ends = if sink {
+        &mut body.sinks
+    } else {
+        &mut body.sources
+    };
+    ends.insert(r.below(ends.len() + 1), end);
+}
+
+/// A lead to nothing more, a sink or a source of node k: `way` 0 a sink, 1 a
+/// source, 2 any.
+fn put_lead(r: &mut Random, bodies: &mut [Body], far: &mut Far, k: usize, way: usize, style: usize) {
+    let target = far.target(r);
+    let end = End {
+        target,
+        text: text(r, style),
+    };
+    let sink = way == 0 || (way == 2 && r.chance(2));
+    put_end(r, &mut bodies[k], sink, end);
+}
+
+/// Some leads more, as far as 64 ends allow.
+fn put_leads(r: &mut Random, bodies: &mut [Body], count: usize, nodes: usize, style: usize) {
+    let mut far = Far::new(r, bodies.len());
+    let way = r.below(4).min(2);
+    let left = MAX_EDGES - chart::edges(bodies);
+    for _ in 0..count.min(left) {
+        let k = r.below(nodes);
+        put_lead(r, bodies, &mut far, k, way, style);
+    }
+}
+
+/// Charts at the limits: boxes near 48, or 64 ends. The cuts are self-loops.
+fn lead_limits(r: &mut Random, style: usize) -> Vec<Body> {
+    let (n, leads, loops) = match r.below(6) {
+        // one node
+        0 => (1, r.among(45, 49), 0),
+        // 32 nodes
+        1 => (MAX_NODES, r.among(14, 18), 0),
+        // any count of nodes, with loops or without
+        2 | 3 => {
+            let n = r.among(1, MAX_NODES);
+            let loops = if r.chance(3) { 0 } else { r.among(1, (46 - n) / 2) };
+            let most = (48 - n - 2 * loops).min(MAX_EDGES - loops);
+            (n, r.among(most.saturating_sub(2), most + 2), loops)
+        }
+        // few leads beside the cuts
+        4 => {
+            let n = r.among(1, MAX_NODES);
+            let leads = r.among(1, 4);
+            let loops = (48 - n - leads) / 2;
+            (n, leads, r.among(loops.saturating_sub(1), loops + 1))
+        }
+        // 64 ends
+        _ => {
+            let n = r.among(1, MAX_NODES);
+            let leads = r.among(1, 48 - n + 3);
+            (n, leads, 0)
+        }
+    };
+    let mut bodies = vec![Body::default(); n];
+    for _ in 0..loops {
+        let k = r.below(n);
+        let end = End {
+            target: k as u8,
+            text: text(r, style),
+        };
+        bodies[k].sinks.push(end);
+    }
+    let nodes = if r.chance(3) { 1 } else { n };
+    put_leads(r, &mut bodies, leads, nodes, style);
+    if loops == 0 && r.chance(2) {
+        // edges that rise, so that nothing is cut, up to 64 ends
+        let mut left = MAX_EDGES - chart::edges(&bodies);
+        if r.chance(2) {
+            left = r.below(left + 1);
+        }
+        for _ in 0..if n > 1 { left } else { 0 } {
+            let a = r.below(n - 1);
+            let b = r.among(a + 1, n - 1);
+            let (k, target) = if r.chance(2) { (a, b) } else { (b, a) };
+            let end = End {
+                target: target as u8,
+                text: text(r, style),
+            };
+            put_end(r, &mut bodies[k], k == a, end);
+        }
+    }
+    bodies
+}
+
+/// A chart with leads to nothing, in most cases.
+fn with_leads(r: &mut Random) -> Vec<Body> {
+    let style = [0, 0, 1, 2, 3][r.below(5)];
+    let way = r.below(8);
+    if way == 7 {
+        return lead_limits(r, style);
+    }
+    let mut bodies = sound(r);
+    if bodies.is_empty() {
+        bodies.push(Body::default());
+    }
+    let n = bodies.len();
+    match way {
+        // the last parts are taken out
+        0 | 1 => bodies.truncate(r.among(1.max(n / 2), n)),
+        // one part is taken out, and its number is another now
+        2 => {
+            let gone = r.below(n);
+            if n > 1 {
+                bodies.remove(gone);
+            }
+            let mut far = Far::new(r, bodies.len());
+            let same = far.target(r);
+            let all = r.chance(2);
+            for body in &mut bodies {
+                for end in body.sources.iter_mut().chain(body.sinks.iter_mut()) {
+                    let target = usize::from(end.target);
+                    if target == gone {
+                        end.target = if all { same } else { far.target(r) };
+                    } else if target > gone {
+                        end.target -= 1;
+                    }
+                }
+            }
+        }
+        // some ends lead to nothing instead
+        3 | 4 => {
+            let mut far = Far::new(r, n);
+            let one_in = r.among(1, 6);
+            for body in &mut bodies {
+                for end in body.sources.iter_mut().chain(body.sinks.iter_mut()) {
+                    if r.chance(one_in) {
+                        end.target = far.target(r);
+                    }
+                }
+            }
+        }
+        // some leads more
+        _ => {
+            let count = if r.chance(2) { r.among(1, 3) } else { r.among(1, 17) };
+            let nodes = if r.chance(4) { 1 } else { n };
+            put_leads(r, &mut bodies, count, nodes, style);
+        }
+    }
+    if chart::leads(&bodies) == 0 && !r.chance(4) {
+        let nodes = bodies.len();
+        put_leads(r, &mut bodies, 1, nodes, style);
+    }
+    bodies
+}
+
+/// A chart with leads to nothing; one in eight is damaged, one in ten has degree
+/// signs.
+fn leading(r: &mut Random) -> Vec<u8> {
+    let mut bodies = with_leads(r);
+    if r.chance(10) {
+        put_signs(r, &mut bodies);
+    }
+    let damage = r.below(16);
+    if damage == 0 {
+        damage_bodies(r, &mut bodies);
+    }
+    let mut chart = chart::write(&bodies);
+    if damage == 1 {
+        damage_bytes(r, &mut chart);
+    }
+    chart.truncate(chart::LISTING_BYTES);
+    chart
+}
+
 /// Which charts are wanted.
 #[derive(Clone, Copy, PartialEq)]
 pub enum Kind {
@@ -546,8 +763,22 @@ pub enum Kind {
     Damaged,
     /// With degree signs.
     Signs,
+    /// With leads to nothing.
+    Leads,
     /// One in six damaged.
     Mixed,
+}
+
+/// The kind of this name.
+pub fn kind(name: &str) -> Option<Kind> {
+    match name {
+        "sound" => Some(Kind::Sound),
+        "damaged" => Some(Kind::Damaged),
+        "signs" => Some(Kind::Signs),
+        "leads" => Some(Kind::Leads),
+        "mixed" => Some(Kind::Mixed),
+        _ => None,
+    }
 }
 
 /// Chart `index` of a seed.
@@ -557,6 +788,7 @@ pub fn generated(seed: u64, index: u64, kind: Kind) -> Vec<u8> {
         Kind::Sound => false,
         Kind::Damaged => true,
         Kind::Signs => return signed(&mut r),
+        Kind::Leads => return leading(&mut r),
         Kind::Mixed => r.chance(6),
     };
     if broken {
@@ -593,4 +825,38 @@ fn lists(bodies: &mut [Body], k: usize, left: usize, charts: &mut Vec<Vec<u8>>) 
             bodies[k].sinks.pop();
         }
     }
+}
+
+/// All charts without texts of 1 node and up to 5 ends, 2 and 3, 3 and 2, over the
+/// targets 0, 1, 2, 3, 9: every way to give each node ordered lists of sources and
+/// sinks.
+pub fn all_small_leads() -> Vec<Vec<u8>> {
+    let mut charts = vec![];
+    for (n, most) in [(1, 5), (2, 3), (3, 2)] {
+        let mut bodies = vec![Body::default(); n];
+        end_lists(&mut bodies, 0, most, &mut charts);
+    }
+    charts
+}
+
+/// List 2k is the sources of node k, list 2k + 1 its sinks.
+fn end_lists(bodies: &mut [Body], list: usize, left: usize, charts: &mut Vec<Vec<u8>>) {
+    if list == 2 * bodies.len() {
+        charts.push(chart::write(bodies));
+        return;
+    }
+    end_lists(bodies, list + 1, left, charts);
+    if left > 0 {
+        for target in [0, 1, 2, 3, 9] {
+            let text = vec![];
+            ends_of(bodies, list).push(End { target, text });
+            end_lists(bodies, list, left - 1, charts);
+            ends_of(bodies, list).pop();
+        }
+    }
+}
+
+fn ends_of(bodies: &mut [Body], list: usize) -> &mut Vec<End> {
+    let body = &mut bodies[list / 2];
+    if list % 2 == 0 { &mut body.sources } else { &mut body.sinks }
 }

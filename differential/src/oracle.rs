@@ -1,9 +1,10 @@
 //! Chart in, document 01's listing out, by the Rust.
 
-use chart::Asked;
+use chart::{Asked, Setting};
 
-const USAGE: &str = "oracle [--batch] [--full] [--points] [--x N] [--y N] < charts
-  one binary chart on standard input, or with --batch hex lines
+const USAGE: &str = "oracle [--batch | --default] [--full] [--points] [--x N] [--y N] < charts
+  one binary chart on standard input, or with --batch hex lines; it is strict,
+  or with --default (a line: with D before the digits) leads to nothing are drawn
   --full   every box's texts and the ends of every curve too
   --points every box's input points and output points too
   --x, --y the origin (0 0)";
@@ -11,12 +12,17 @@ const USAGE: &str = "oracle [--batch] [--full] [--points] [--x N] [--y N] < char
 fn main() {
     let mut asked = Asked::default();
     let mut batch = false;
+    let mut setting = Setting::Strict;
     let mut args = std::env::args().skip(1);
     while let Some(arg) = args.next() {
         let mut number = || args.next().and_then(|n| n.parse().ok());
         let known = match arg.as_str() {
             "--batch" => {
                 batch = true;
+                true
+            }
+            "--default" => {
+                setting = Setting::Default;
                 true
             }
             "--full" => {
@@ -31,11 +37,11 @@ fn main() {
             "--y" => number().map(|n| asked.y = n).is_some(),
             _ => false,
         };
-        if !known {
+        if !known || (batch && setting == Setting::Default) {
             eprintln!("{USAGE}");
             std::process::exit(2);
         }
     }
     answer::quiet();
-    chart::serve(batch, |chart| answer::listing(chart, asked));
+    chart::serve(batch, setting, |asking| Ok(answer::listing(asking, asked)));
 }

@@ -1,11 +1,12 @@
 //! A second reading: document 01's modules 2 to 9 over plain vectors, written
 //! from the document's words and not from the Rust's code (the sizes of module
 //! 8 excepted, which the document takes from `RenderNode::new` and
-//! `RenderGrid::new`). It shares the chart reader with the oracle, nothing else.
+//! `RenderGrid::new`), and the leads to nothing from document 02's words (L5). It
+//! shares the chart reader with the oracle, nothing else.
 
 use std::collections::BTreeMap;
 
-use chart::{Asked, Body, MAX_BOXES, MAX_POSITION, Refusal};
+use chart::{Asked, Asking, Body, MAX_BOXES, MAX_POSITION, Refusal, Setting};
 
 #[derive(Clone)]
 struct Source {
@@ -67,11 +68,15 @@ fn given(bodies: &[Body]) -> Vec<Node> {
     bodies.iter().map(node).collect()
 }
 
-/// Module 2.
+/// Module 2. An end that leads to no node is passed over.
 fn complete(nodes: &mut [Node]) {
-    for p in 0..nodes.len() {
+    let n = nodes.len();
+    for p in 0..n {
         for i in 0..nodes[p].sinks.len() {
             let q = nodes[p].sinks[i].target;
+            if q >= n {
+                continue;
+            }
             let there = |s: &Source| s.target == p && s.mark == Some(i);
             if !nodes[q].sources.iter().any(there) {
                 nodes[q].sources.push(Source {
@@ -83,6 +88,9 @@ fn complete(nodes: &mut [Node]) {
         }
         for j in 0..nodes[p].sources.len() {
             let q = nodes[p].sources[j].target;
+            if q >= n {
+                continue;
+            }
             if !nodes[q].sinks.iter().any(|s| s.target == p) {
                 nodes[p].sources[j].mark = Some(nodes[q].sinks.len());
                 nodes[q].sinks.push(Sink {
@@ -92,6 +100,47 @@ fn complete(nodes: &mut [Node]) {
             }
         }
     }
+}
+
+/// Document 02, L5: each lead to nothing gets a box of its own, or 13.
+fn join(nodes: &mut Vec<Node>) -> Result<(), Refusal> {
+    let n = nodes.len();
+    let lines = |target: usize| vec![format!("#{target}(invalid)").into_bytes()];
+    for p in 0..n {
+        for i in 0..nodes[p].sinks.len() {
+            let target = nodes[p].sinks[i].target;
+            if target >= n {
+                nodes[p].sinks[i].target = nodes.len();
+                nodes.push(Node {
+                    sources: vec![Source {
+                        target: p,
+                        mark: Some(i),
+                        text: vec![],
+                    }],
+                    lines: lines(target),
+                    sinks: vec![],
+                });
+            }
+        }
+        for j in 0..nodes[p].sources.len() {
+            let target = nodes[p].sources[j].target;
+            if target >= n {
+                nodes[p].sources[j].target = nodes.len();
+                nodes.push(Node {
+                    sources: vec![],
+                    lines: lines(target),
+                    sinks: vec![Sink {
+                        target: p,
+                        text: vec![],
+                    }],
+                });
+            }
+        }
+    }
+    if nodes.len() > MAX_BOXES {
+        return Err(Refusal(13, 0));
+    }
+    Ok(())
 }
 
 /// Module 3.
@@ -509,17 +558,21 @@ struct Layout {
 }
 
 /// Modules 1 and 2, and refusals 1 to 12.
-fn completed(chart: &[u8]) -> Result<Vec<Node>, Refusal> {
+fn completed(chart: &[u8], setting: Setting) -> Result<Vec<Node>, Refusal> {
     let bodies = chart::read(chart)?;
-    targets(&bodies)?;
+    if setting == Setting::Strict {
+        targets(&bodies)?;
+    }
     let mut nodes = given(&bodies);
     complete(&mut nodes);
     Ok(nodes)
 }
 
 /// Modules 1 to 7, and refusals 1 to 13.
-fn layout(chart: &[u8]) -> Result<Layout, Refusal> {
-    let (nodes, cuts) = cut(completed(chart)?)?;
+fn layout(chart: &[u8], setting: Setting) -> Result<Layout, Refusal> {
+    let mut nodes = completed(chart, setting)?;
+    join(&mut nodes)?;
+    let (nodes, cuts) = cut(nodes)?;
     let first = first_columns(&nodes);
     let rows = heights(&nodes);
     let columns = columns(&nodes, &first, &rows);
@@ -532,8 +585,9 @@ fn layout(chart: &[u8]) -> Result<Layout, Refusal> {
     })
 }
 
-fn listing(chart: &[u8], asked: Asked) -> String {
-    match layout(chart::listed(chart)).and_then(|l| sheet(&l, asked)) {
+fn listing(asking: &Asking, asked: Asked) -> String {
+    let laid = layout(chart::listed(&asking.chart), asking.setting);
+    match laid.and_then(|l| sheet(&l, asked)) {
         Ok(text) => text,
         Err(refusal) => refusal.line(),
     }
@@ -665,11 +719,11 @@ fn numbers<T: ToString>(list: &[T]) -> String {
 
 fn stages(chart: &[u8]) -> String {
     let chart = chart::listed(chart);
-    let begun = match completed(chart) {
+    let begun = match completed(chart, Setting::Strict) {
         Err(refusal) => return refusal.line(),
         Ok(nodes) => format!("completed {}{}\n", nodes.len(), graph_text(&nodes)),
     };
-    match layout(chart) {
+    match layout(chart, Setting::Strict) {
         Err(refusal) => begun + &refusal.line(),
         Ok(l) => format!(
             "{begun}cut {} {}{}\nfirst{}\nheights{}\ncolumns{}\n",
@@ -754,18 +808,21 @@ fn reading(text: &[u8], room: Option<usize>) -> String {
     }
 }
 
-const USAGE: &str = "second [--batch] [--full] [--points] [--x N] [--y N] [--stages] < charts
+const USAGE: &str =
+    "second [--batch | --default] [--full] [--points] [--x N] [--y N] [--stages] < charts
 second --path-text [--buffer N] < text
-  one binary chart on standard input, or with --batch hex lines
+  one binary chart on standard input, or with --batch hex lines; it is strict,
+  or with --default (a line: with D before the digits) leads to nothing are drawn
   --full       every box's texts and the ends of every curve too
   --points     every box's input points and output points too
-  --stages     instead of the listing, the stages of the layout
+  --stages     instead of the listing, the stages of the layout (strict only)
   --path-text  a path text on standard input: its count of segments, or its
                refusal; with --buffer read and written again into N bytes";
 
 fn main() {
     let mut asked = Asked::default();
     let (mut batch, mut by_stage, mut path_text, mut room) = (false, false, false, None);
+    let mut drawn = false;
     let mut args = std::env::args().skip(1);
     while let Some(arg) = args.next() {
         let mut number = || args.next().and_then(|n| n.parse::<u32>().ok());
@@ -776,6 +833,7 @@ fn main() {
             flag => {
                 let flag = match flag {
                     "--batch" => Some(&mut batch),
+                    "--default" => Some(&mut drawn),
                     "--full" => Some(&mut asked.full),
                     "--points" => Some(&mut asked.points),
                     "--stages" => Some(&mut by_stage),
@@ -785,16 +843,23 @@ fn main() {
                 flag.map(|flag| *flag = true).is_some()
             }
         };
-        if !known {
+        if !known || (batch && drawn) {
             eprintln!("{USAGE}");
             std::process::exit(2);
         }
     }
+    let setting = if drawn {
+        Setting::Default
+    } else {
+        Setting::Strict
+    };
     if path_text {
         print!("{}", reading(&chart::whole_input(), room));
     } else if by_stage {
-        chart::serve(batch, stages);
+        chart::serve(batch, setting, |asking| {
+            chart::strict_only(asking).map(stages)
+        });
     } else {
-        chart::serve(batch, |chart| listing(chart, asked));
+        chart::serve(batch, setting, |asking| Ok(listing(asking, asked)));
     }
 }

@@ -1,7 +1,7 @@
 //! The stages of the Rust itself, from a copy of `grid_process.rs` made by the
 //! build script with recording calls put in. Form: `second --stages`.
 
-use chart::{Body, MAX_BOXES, Refusal};
+use chart::{Body, MAX_BOXES, Refusal, Setting};
 use render_stages::{DebugNode, RenderError, STAGES, internal::grid_process};
 use triple_arena::{Arena, ptr_struct, traits::Ptr};
 
@@ -56,5 +56,7 @@ fn stages(chart: &[u8]) -> String {
 
 fn main() {
     let batch = std::env::args().skip(1).any(|arg| arg == "--batch");
-    chart::serve(batch, stages);
+    chart::serve(batch, Setting::Strict, |asking| {
+        chart::strict_only(asking).map(stages)
+    });
 }

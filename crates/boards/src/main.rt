@@ -4,6 +4,7 @@ use chart::Board;
 use chart::Item;
 use chart::Line;
 use chart::Lines;
+use chart::Setting;
 use chart::Table;
 use libc::STDOUT_FILENO;
 
@@ -58,7 +59,7 @@ fn print_board(b: Board) {
 }
 
 fn print_chart(bytes: &[u8]) {
-    let r = chart::read(bytes);
+    let r = chart::read(bytes, Setting::Strict);
     let a = r.answer;
     match a {
         Answer::Ready => {

@@ -12,9 +12,11 @@ use lib.Dec.{eqb, leb, ltb}
 use lib.ListN.{length, getD, drop, length-append}
 use lib.Seq.{drop-append-seam}
 use borrow.Author.Tests.{lt-ltb, le-ltb, le-leb, lt-leb, eq-eqb}
-use Rattle.chart.specs.Chart.{Part, End, Node, Board, ready, Got, got, refused, _then_, byte, many, characters, text, end, items, body, entry, bodies, endsOf, targets, targetsOf, firstOutside, judgeTargets, judge, judged, chart, byteC2, byteB0}
+use Rattle.chart.specs.Chart.{Part, End, Node, Board, ready, Got, got, refused, _then_, byte, many, characters, text, end, items, body, entry, bodies, endsOf, targets, targetsOf, firstOutside, outsideIn, judgeTargets, judge, judged, chart, byteC2, byteB0}
 use Rattle.chart.specs.Text.{Texted, empty, plain, degree, charactersIn}
 use Rattle.laws.specs.Lists.{All}
+use Rattle.chart.specs.declared.Setting.{Setting}
+use Rattle.chart.specs.declared.Setting.the-variants.{Default, Strict}
 use Rattle.chart.specs.Encode.{Written, Drawn, textBytes, endBytes, joined, bodyBytes, contentsBytes, encode, placeText, placeEnd, placed, placeNode, placeAll, TextWithin, EndWithin, NodeWithin, drawnEnds, Within}
 use Rattle.laws.proofs.Lists.{all-join}
 use Rattle.chart.proofs.Gives.{text-low, text-no-sign}
@@ -62,8 +64,8 @@ text-reads t s at l e w =
     let z : at + suc (length t) ≡ at + 1 + length t = omega arith in
     record { is = rw (h .is, le-leb (length t) 24 (w .short), r .is, z); rest = rw z (r .rest) }
 
-end-reads : (n : ℕ) (x : Written) (s : List ℕ) (at : ℕ) (l : List ℕ) → drop at s ≡ endBytes x ++ l → EndWithin n x → Reads s (end s at) (placeEnd at x) (at + length (endBytes x)) l
-end-reads n x s at l e w =
+end-reads : (v : Setting) (n : ℕ) (x : Written) (s : List ℕ) (at : ℕ) (l : List ℕ) → drop at s ≡ endBytes x ++ l → EndWithin v n x → Reads s (end s at) (placeEnd at x) (at + length (endBytes x)) l
+end-reads v n x s at l e w =
     let h = byte-reads s at (x .to) (textBytes (x .text) ++ l) e in
     let r = text-reads (x .text) s (at + 1) l (h .rest) (w .text) in
     let z : at + suc (suc (length (x .text))) ≡ at + 1 + suc (length (x .text)) = omega arith in
@@ -81,7 +83,7 @@ module _ {A B : Type 0} (bytes : A → List ℕ) (place : ℕ → A → B) (P : 
       record { is = rw (h .is, r .is, z); rest = rw z (r .rest) }
 
 -- ---- a body
-module _ (n : ℕ) (p : Drawn) (s : List ℕ) (at : ℕ) (l : List ℕ) (w : NodeWithin n p) where
+module _ (v : Setting) (n : ℕ) (p : Drawn) (s : List ℕ) (at : ℕ) (l : List ℕ) (w : NodeWithin v n p) where
   body-reads : drop at s ≡ bodyBytes p ++ l → Reads s (body s at) (placeNode at p) (at + length (bodyBytes p)) l
   body-reads e =
       let i = length (p .sources) in
@@ -95,9 +97,9 @@ module _ (n : ℕ) (p : Drawn) (s : List ℕ) (at : ℕ) (l : List ℕ) (w : Nod
       let c = byte-reads s (at + 1 + 1) k ((xs ++ (ls ++ ys)) ++ l) (b .rest) in
       let three : at + 1 + 1 + 1 ≡ at + 3 = omega arith in
       let f : drop (at + 3) s ≡ xs ++ (ls ++ (ys ++ l)) = rw (← three) (c .rest ∙ append-assoc xs (ls ++ ys) l ∙ ap (λ (m : List ℕ). xs ++ m) (append-assoc ls ys l)) in
-      let d = many-read endBytes placeEnd (EndWithin n) s (end s) (λ x m r q h. end-reads n x s m r q h) (p .sources) (at + 3) (ls ++ (ys ++ l)) f (w .sources) in
+      let d = many-read endBytes placeEnd (EndWithin v n) s (end s) (λ x m r q h. end-reads v n x s m r q h) (p .sources) (at + 3) (ls ++ (ys ++ l)) f (w .sources) in
       let g = many-read textBytes placeText TextWithin s (text s) (λ x m r q h. text-reads x s m r q h) (p .lines) (at + 3 + length xs) (ys ++ l) (d .rest) (w .lines) in
-      let h = many-read endBytes placeEnd (EndWithin n) s (end s) (λ x m r q h. end-reads n x s m r q h) (p .sinks) (at + 3 + length xs + length ls) l (g .rest) (w .sinks) in
+      let h = many-read endBytes placeEnd (EndWithin v n) s (end s) (λ x m r q h. end-reads v n x s m r q h) (p .sinks) (at + 3 + length xs + length ls) l (g .rest) (w .sinks) in
       let z : at + length (bodyBytes p) ≡ at + 3 + length xs + length ls + length ys = omega (arith, length-append xs (ls ++ ys), length-append ls ys) in
       record { is = rw (a .is, b .is, le-leb j 4 (w .few), c .is, three, d .is, g .is, h .is, z); rest = rw z (h .rest) }
 
@@ -121,12 +123,12 @@ contents-length at [] = refl
 contents-length at (p ∷ ps) = omega (arith, contents-length (at + length (bodyBytes p)) ps)
 
 -- ---- the bodies
-bodies-read : (n : ℕ) (ps : List Drawn) (s : List ℕ) (k at : ℕ) (l : List ℕ) → Entries s k at ps → drop at s ≡ joined bodyBytes ps ++ l → All (NodeWithin n) ps
+bodies-read : (v : Setting) (n : ℕ) (ps : List Drawn) (s : List ℕ) (k at : ℕ) (l : List ℕ) → Entries s k at ps → drop at s ≡ joined bodyBytes ps ++ l → All (NodeWithin v n) ps
     → Reads s (bodies (length ps) s k at) (placed bodyBytes placeNode at ps) (at + length (joined bodyBytes ps)) l
-bodies-read n [] s k at l o e w = let z : at + 0 ≡ at = omega arith in record { is = rw z; rest = rw z e }
-bodies-read n (p ∷ ps) s k at l o e w =
-    let h = body-reads n p s at (joined bodyBytes ps ++ l) (w .0) (e ∙ append-assoc (bodyBytes p) (joined bodyBytes ps) l) in
-    let r = bodies-read n ps s (suc k) (at + length (bodyBytes p)) l (o .1) (h .rest) (w .1) in
+bodies-read v n [] s k at l o e w = let z : at + 0 ≡ at = omega arith in record { is = rw z; rest = rw z e }
+bodies-read v n (p ∷ ps) s k at l o e w =
+    let h = body-reads v n p s at (joined bodyBytes ps ++ l) (w .0) (e ∙ append-assoc (bodyBytes p) (joined bodyBytes ps) l) in
+    let r = bodies-read v n ps s (suc k) (at + length (bodyBytes p)) l (o .1) (h .rest) (w .1) in
     let z : at + length (bodyBytes p ++ joined bodyBytes ps) ≡ at + length (bodyBytes p) + length (joined bodyBytes ps) = omega (arith, length-append (bodyBytes p) (joined bodyBytes ps)) in
     record { is = rw (eq-eqb (entry s k) at (o .0), h .is, r .is, z); rest = rw z (r .rest) }
 
@@ -144,11 +146,11 @@ ends-placed at (p ∷ ps) =
       ends-placed (at + length (bodyBytes p)) ps,
     )
 
-first-past : (n at : ℕ) (xs : List Written) (ts : List ℕ) → All (EndWithin n) xs → firstOutside (targets (placed endBytes placeEnd at xs) ++ ts) n ≡ firstOutside ts n
+first-past : (n at : ℕ) (xs : List Written) (ts : List ℕ) → All (EndWithin Strict n) xs → firstOutside (targets (placed endBytes placeEnd at xs) ++ ts) n ≡ firstOutside ts n
 first-past n at [] ts a = refl
-first-past n at (x ∷ xs) ts a = rw (lt-ltb (x .to) n (a .0 .target)) (first-past n (at + length (endBytes x)) xs ts (a .1))
+first-past n at (x ∷ xs) ts a = rw (lt-ltb (x .to) n (a .0 .target refl)) (first-past n (at + length (endBytes x)) xs ts (a .1))
 
-none-outside : (n at : ℕ) (ps : List Drawn) → All (NodeWithin n) ps → firstOutside (targetsOf (placed bodyBytes placeNode at ps)) n ≡ none
+none-outside : (n at : ℕ) (ps : List Drawn) → All (NodeWithin Strict n) ps → firstOutside (targetsOf (placed bodyBytes placeNode at ps)) n ≡ none
 none-outside n at [] a = refl
 none-outside n at (p ∷ ps) a =
     let q = placeNode at p in
@@ -158,8 +160,12 @@ none-outside n at (p ∷ ps) a =
     ∙ first-past n (at + 3) (p .sources) ts (a .0 .sources)
     ∙ none-outside n (at + length (bodyBytes p)) ps (a .1))
 
+none-in : (v : Setting) (n at : ℕ) (ps : List Drawn) → All (NodeWithin v n) ps → outsideIn v (targetsOf (placed bodyBytes placeNode at ps)) n ≡ none
+none-in Default n at ps a = refl
+none-in Strict n at ps a = none-outside n at ps a
+
 -- ---- the whole chart
-module _ (ps : List Drawn) (w : Within ps) where
+module _ (v : Setting) (ps : List Drawn) (w : Within v ps) where
   abbrev s : List ℕ
   s = encode ps
 
@@ -180,10 +186,10 @@ module _ (ps : List Drawn) (w : Within ps) where
       let z : 2 + 2 * n ≡ suc (suc (length inner)) = omega (arith, contents-length (2 + 2 * n) ps) in
       ap (λ (k : ℕ). drop k s) z ∙ drop-append-seam inner outer ∙ sym (append-nil outer)
 
-  pub complete : chart (encode ps) ≡ ready (placeAll ps)
+  pub complete : chart v (encode ps) ≡ ready (placeAll ps)
   unfolding chart
   complete =
-      let r = bodies-read n ps s 0 (2 + 2 * n) [] (entries-read ps s 0 (2 + 2 * n) outer refl) from (w .each) in
+      let r = bodies-read v n ps s 0 (2 + 2 * n) [] (entries-read ps s 0 (2 + 2 * n) outer refl) from (w .each) in
       let f : leb (endsOf (placeAll ps)) 64 ≡ true = le-leb (endsOf (placeAll ps)) 64 (omega (arith, ends-placed (2 + 2 * n) ps, w .ends)) in
       rw (
         le-ltb (length s) 2 (omega (arith, size)),
@@ -192,7 +198,7 @@ module _ (ps : List Drawn) (w : Within ps) where
         r .is,
         le-ltb (2 + 2 * n + length outer) (length s) (omega (arith, size)),
         f,
-        none-outside n (2 + 2 * n) ps (w .each),
+        none-in v n (2 + 2 * n) ps (w .each),
       )
 
 -- ---- and it is made of bytes
@@ -211,11 +217,11 @@ texted-made (degree w) = (omega arith, (omega arith, texted-made w))
 text-made : (t : List ℕ) → TextWithin t → All Byte (textBytes t)
 text-made t w = (omega (arith, w .short), texted-made (w .texted))
 
-module _ (n : ℕ) (few : n ≤ 32) where
-  end-made : (e : Written) → EndWithin n e → All Byte (endBytes e)
-  end-made e w = (omega (arith, w .target), text-made (e .text) (w .text))
+module _ (v : Setting) (n : ℕ) where
+  end-made : (e : Written) → EndWithin v n e → All Byte (endBytes e)
+  end-made e w = (w .byte, text-made (e .text) (w .text))
 
-  body-made : (p : Drawn) → NodeWithin n p → length (p .sources) ≤ 64 → length (p .sinks) ≤ 64 → All Byte (bodyBytes p)
+  body-made : (p : Drawn) → NodeWithin v n p → length (p .sources) ≤ 64 → length (p .sinks) ≤ 64 → All Byte (bodyBytes p)
   body-made p w i k = (
     omega arith,
     (
@@ -223,15 +229,15 @@ module _ (n : ℕ) (few : n ≤ 32) where
       (
         omega arith,
         all-join Byte (joined endBytes (p .sources)) (joined textBytes (p .lines) ++ joined endBytes (p .sinks))
-            (joined-bytes (EndWithin n) endBytes end-made (p .sources) (w .sources))
+            (joined-bytes (EndWithin v n) endBytes end-made (p .sources) (w .sources))
             (all-join Byte (joined textBytes (p .lines)) (joined endBytes (p .sinks))
             (joined-bytes TextWithin textBytes text-made (p .lines) (w .lines))
-            (joined-bytes (EndWithin n) endBytes end-made (p .sinks) (w .sinks))),
+            (joined-bytes (EndWithin v n) endBytes end-made (p .sinks) (w .sinks))),
       ),
     ),
   )
 
-  bodies-made : (ps : List Drawn) → All (NodeWithin n) ps → drawnEnds ps ≤ 64 → All Byte (joined bodyBytes ps)
+  bodies-made : (ps : List Drawn) → All (NodeWithin v n) ps → drawnEnds ps ≤ 64 → All Byte (joined bodyBytes ps)
   bodies-made [] w h = tt
   bodies-made (p ∷ ps) w h =
       all-join Byte (bodyBytes p) (joined bodyBytes ps) (body-made p (w .0) (omega arith) (omega arith)) (bodies-made ps (w .1) (omega arith))
@@ -242,14 +248,14 @@ contents-made at (p ∷ ps) h =
     let z = length-append (bodyBytes p) (joined bodyBytes ps) in
     (mod-lt at (omega arith), (omega (arith, div-add-mod' at 256), contents-made (at + length (bodyBytes p)) ps (omega arith)))
 
-pub complete-bytes : (ps : List Drawn) → Within ps → All (λ b. b < 256) (encode ps)
-complete-bytes ps w =
-    let a = accepted (encode ps) (placeAll ps) (complete ps w) in (
+pub complete-bytes : (v : Setting) (ps : List Drawn) → Within v ps → All (λ b. b < 256) (encode ps)
+complete-bytes v ps w =
+    let a = accepted v (encode ps) (placeAll ps) (complete v ps w) in (
       omega arith,
       (
         omega (arith, w .nodes),
         all-join Byte (contentsBytes (2 + 2 * length ps) ps) (joined bodyBytes ps)
-            (contents-made (2 + 2 * length ps) ps (omega (arith, size ps w, a .size)))
-            (bodies-made (length ps) (w .nodes) ps (w .each) (w .ends)),
+            (contents-made (2 + 2 * length ps) ps (omega (arith, size v ps w, a .size)))
+            (bodies-made v (length ps) ps (w .each) (w .ends)),
       ),
     )

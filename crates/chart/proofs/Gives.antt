@@ -14,7 +14,7 @@ use borrow.Author.Tests.{ltb-true, leb-true, eqb-true, ne-eqb}
 use Rattle.chart.specs.Chart.{Part, End, Node, Counts, Board, endsOf, Refusal, Got, got, refused, _then_, byte, many, isText, textByte, characters, text, end, counts, items, body, entry, bodies, byteC2, byteB0}
 use Rattle.chart.specs.Text.{Texted, empty, plain, degree, charactersIn, characterBytes, ending}
 use Rattle.laws.specs.Lists.{All}
-use Rattle.chart.specs.Accepted.{Fitting}
+use Rattle.chart.specs.Accepted.{Fitting, EndFits}
 
 abbrev pub Gives : {A : Type 0} → Got A → (A → ℕ → Type 0) → Type 0
 Gives (got x at) P = P x at
@@ -175,8 +175,13 @@ many-give (suc k) P s m item g at =
     (λ x e h. gives-then (many k item e) _ (Many P s m e k) _ (many-give k P s m item g e)
     (λ xs f r. record { each = (h .fits, r .each); count = ap suc (r .count); inside = λ l. r .inside (h .inside); size = wider m k at e f (h .size) (r .size) }))
 
-pub text-gives : (s : List ℕ) (at : ℕ) → Gives (text s at) (One (Fitting s) s 25 at)
-text-gives s at =
+-- a text, and where it begins
+record Text (s : List ℕ) (at : ℕ) (t : Part) (e : ℕ) : Type 0 where
+  pub begins : t .at ≡ at + 1
+  pub one : One (Fitting s) s 25 at t e
+
+text-begins : (s : List ℕ) (at : ℕ) → Gives (text s at) (Text s at)
+text-begins s at =
     gives-then (byte s at) _ (Byte s at) _ (byte-gives s at)
     (λ len begin h. gives-if (leb len 24) _ _ _
     (λ t. gives-then (characters len s begin) _ (Characters s begin len) _ (characters-give len s begin)
@@ -186,27 +191,35 @@ text-gives s at =
     let all : ending n s begin - begin ≡ len = rw (g .ends) (omega (arith, g .after)) in
     let before : begin - 1 ≡ at = omega (arith, h .after) in
     record {
-      fits = record {
-        inside = rw (g .ends) i;
-        texted = rw all (g .texted);
-        counted = rw all (g .counted);
-        bytes = rw (all, before) (h .is);
-        most = rw all l;
-        short = omega (arith, g .few);
+      begins = h .after;
+      one = record {
+        fits = record {
+          inside = rw (g .ends) i;
+          texted = rw all (g .texted);
+          counted = rw all (g .counted);
+          bytes = rw (all, before) (h .is);
+          most = rw all l;
+          short = omega (arith, g .few);
+        };
+        inside = i;
+        size = omega (arith, g .after, h .after);
       };
-      inside = i;
-      size = omega (arith, g .after, h .after);
     })))
 
--- the text of a source or a sink
-abbrev pub EndFits : List ℕ → End → Type 0
-EndFits s x = Fitting s (x .text)
+gives-more : {A : Type 0} (g : Got A) (P Q : A → ℕ → Type 0) → Gives g P → ((x : A) (at : ℕ) → P x at → Q x at) → Gives g Q
+gives-more (got x at) P Q p f = f x at p
+gives-more (refused r) P Q p f = tt
+
+pub text-gives : (s : List ℕ) (at : ℕ) → Gives (text s at) (One (Fitting s) s 25 at)
+text-gives s at = gives-more (text s at) (Text s at) _ (text-begins s at) (λ t e h. h .one)
 
 pub end-gives : (s : List ℕ) (at : ℕ) → Gives (end s at) (One (EndFits s) s 26 at)
 end-gives s at =
     gives-then (byte s at) _ (Byte s at) _ (byte-gives s at)
-    (λ to e h. gives-then (text s e) _ (One (Fitting s) s 25 e) _ (text-gives s e)
-    (λ t f g. record { fits = g .fits; inside = g .inside; size = omega arith }))
+    (λ to e h. gives-then (text s e) _ (Text s e) _ (text-begins s e)
+    (λ t f g.
+    let z : t .at - 2 ≡ at = omega (arith, g .begins, h .after) in
+    record { fits = record { byte = rw z (h .is); text = g .one .fits }; inside = g .one .inside; size = omega (arith, h .after, g .one .size) }))
 
 -- a node, its targets not yet judged
 pub record Shaped (s : List ℕ) (p : Node) : Type 0 where

@@ -10,6 +10,7 @@ use lib.ListN.{length, getD, take, drop, take-append-drop, length-drop}
 use lib.Seq.{length-take-le}
 use borrow.Author.Tests.{lt-ltb, le-ltb, eqb-true, ne-eqb}
 use Rattle.chart.specs.Chart.{Part, End, Node, Board, Reading, ready, refusal, Refusal, cutBody, misplaced, longText, notText, Got, got, refused, _then_, byte, many, isText, textByte, byteC2, byteB0, characters, text, end, counts, body, entry, bodies, judged, underTwo, chart}
+use Rattle.chart.specs.declared.Setting.{Setting}
 use Rattle.chart.specs.Text.{Texted, empty, plain, degree, charactersIn, ending, bytesOf, textOf}
 use Rattle.chart.specs.Accepted.{Fitting}
 use Rattle.chart.proofs.Gives.{Gives, text-no-sign, ending-from, Characters, characters-give}
@@ -42,14 +43,14 @@ module _ (read : ℕ → Got Part) (s : List ℕ) where
   bodiesBy (suc m) k at =
       cond (eqb (entry s k) at) (bodyBy at then λ node at₁. bodiesBy m (suc k) at₁ then λ nodes at₂. got (node ∷ nodes) at₂) (refused misplaced)
 
-  abbrev pub chartBy : Reading
-  chartBy =
+  abbrev pub chartBy : Setting → Reading
+  chartBy w =
       let n = getD s 1 0 in
       cond (ltb (length s) 2) (underTwo (length s))
       (cond (eqb (getD s 0 0) 1)
       (cond (leb n 32)
       (cond (leb (2 + 2 * n) (length s))
-      (judged s n (bodiesBy n 0 (2 + 2 * n)))
+      (judged w s n (bodiesBy n 0 (2 + 2 * n)))
       (refusal 4 0))
       (refusal 3 0))
       (refusal 2 0))
@@ -59,9 +60,9 @@ bodies-by : (m : ℕ) (s : List ℕ) (k at : ℕ) → bodies m s k at ≡ bodies
 bodies-by zero s k at = refl
 bodies-by (suc m) s k at = rw (fun-ext (bodies-by m s (suc k)))
 
-pub chart-by : (s : List ℕ) → chart s ≡ chartBy (text s) s
+pub chart-by : (w : Setting) (s : List ℕ) → chart w s ≡ chartBy (text s) s w
 unfolding chart
-chart-by s = rw (bodies-by (getD s 1 0) s 0 (2 + 2 * getD s 1 0))
+chart-by w s = rw (bodies-by (getD s 1 0) s 0 (2 + 2 * getD s 1 0))
 
 -- no byte pair C2 B0 in the chart, and no C2 at its end (there document 02 says 6 where 9 was said)
 abbrev pub Unsigned : List ℕ → Type 0
@@ -110,8 +111,8 @@ module _ (s : List ℕ) (u : Unsigned s) where
       go true false e f = rw (e, f)
       go true true e f = rw (e, f, unsigned-characters k (at + 1)) (then-then (many k (textByte s) (at + 1)) _ _)
 
-  pub unsigned-chart : chart s ≡ chartBy (plainText s) s
-  unsigned-chart = chart-by s ∙ ap (λ (read : ℕ → Got Part). chartBy read s) (fun-ext unsigned-text)
+  pub unsigned-chart : (w : Setting) → chart w s ≡ chartBy (plainText s) s w
+  unsigned-chart w = chart-by w s ∙ ap (λ (read : ℕ → Got Part). chartBy read s w) (fun-ext unsigned-text)
 
 -- a text's end is its length further on, as before
 pub unsigned-ending : (s : List ℕ) (t : Part) → Fitting s t → Unsigned s → ending (t .len) s (t .at) ≡ t .at + t .len
@@ -199,12 +200,12 @@ module _ (s : List ℕ) where
       (λ p e. kept-then (bodiesBy (plainText s) s m (suc k) e) (bodies m s (suc k) e) _ _ (kept-bodies m (suc k) e)
       (λ ps f. refl)))
 
-  module _ (ps : Board) where
-    kept-judged : (n : ℕ) (g h : Got Board) → Kept g h → judged s n g ≡ ready ps → judged s n h ≡ ready ps
+  module _ (w : Setting) (ps : Board) where
+    kept-judged : (n : ℕ) (g h : Got Board) → Kept g h → judged w s n g ≡ ready ps → judged w s n h ≡ ready ps
     kept-judged n (got qs at) h p e = rw p e
     kept-judged n (refused r) h p e = let z : _≡_ {A = ℕ} 0 1 = cc in absurd (omega arith)
 
-    pub accepted-before : chartBy (plainText s) s ≡ ready ps → chart s ≡ ready ps
+    pub accepted-before : chartBy (plainText s) s w ≡ ready ps → chart w s ≡ ready ps
     unfolding chart
     accepted-before = go (ltb (length s) 2) (eqb (getD s 0 0) 1) (leb n 32) (leb (2 + 2 * n) (length s))
       where
@@ -212,7 +213,7 @@ module _ (s : List ℕ) where
         n = getD s 1 0
 
         tested : Bool → Bool → Bool → Bool → Got Board → Reading
-        tested a b c d g = cond a (underTwo (length s)) (cond b (cond c (cond d (judged s n g) (refusal 4 0)) (refusal 3 0)) (refusal 2 0))
+        tested a b c d g = cond a (underTwo (length s)) (cond b (cond c (cond d (judged w s n g) (refusal 4 0)) (refusal 3 0)) (refusal 2 0))
 
         go : (a b c d : Bool) → tested a b c d (bodiesBy (plainText s) s n 0 (2 + 2 * n)) ≡ ready ps → tested a b c d (bodies n s 0 (2 + 2 * n)) ≡ ready ps
         go true b c d e = e

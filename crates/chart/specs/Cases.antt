@@ -1,4 +1,5 @@
--- Charts and what they are read as. A case has the chart in hexadecimal and document 01's two numbers, 0 0 where it is accepted;
+-- Charts and what they are read as. A case has the chart in hexadecimal and document 01's two numbers, 0 0 where it is accepted, in both settings;
+-- or it has the second number of 12, in the strict setting alone;
 -- the answers are those of an independent reader written from documents 01 and 02 (docs/DIFFERENCES.md).
 -- Assumes nothing.
 use Prim.Native.Nat.{ℕ}
@@ -7,11 +8,13 @@ use mathlib.Core.Path.{_≡_, refl}
 use mathlib.Core.Bool.{Bool, true, _&&_}
 use mathlib.Core.List.{List, [], _∷_}
 use lib.Dec.{eqb}
+use Rattle.chart.specs.declared.Setting.the-variants.{Default, Strict}
 use Rattle.laws.specs.Bytes.{hex, allOf}
 use Rattle.chart.specs.Chart.{Part, End, Node, Board, Reading, ready, refusal, chart}
 
 data Case : Type 0 where
   is : String → ℕ → ℕ → Case
+  strict : String → ℕ → Case
 
 -- both numbers of the answer are these; an accepted chart's are 0
 abbrev numbered : Reading → ℕ → ℕ → Bool
@@ -20,7 +23,8 @@ numbered (refusal first second) a b = eqb first a && eqb second b
 
 holds : Case → Bool
 unfolding chart
-holds (is s a b) = numbered (chart (hex s)) a b
+holds (is s a b) = numbered (chart Strict (hex s)) a b && numbered (chart Default (hex s)) a b
+holds (strict s b) = numbered (chart Strict (hex s)) 12 b && numbered (chart Default (hex s)) 0 0
 
 cases : List Case
 cases =
@@ -114,11 +118,11 @@ cases =
     -- 11 before 12
     is "01010400000041c800c800c800c800c800c800c800c800c800c800c800c800c800c800c800c800c800c800c800c800c800c800c800c800c800c800c800c800c800c800c800c800c800c800c800c800c800c800c800c800c800c800c800c800c800c800c800c800c800c800c800c800c800c800c800c800c800c800c800c800c800c800c800c800c800" 11 0 ∷
     -- 12: node by node
-    is "010206000b0001000005000000010600" 12 5 ∷
+    strict "010206000b0001000005000000010600" 5 ∷
     -- 12: sinks before sources
-    is "010206000d0001000105000600000000" 12 6 ∷
+    strict "010206000d0001000105000600000000" 6 ∷
     -- 12: 2 is not below 2
-    is "010206000f00000003010002000300000000" 12 2 ∷
+    strict "010206000f00000003010002000300000000" 2 ∷
     -- accepted: 32 nodes, 4 lines each, 64 sources and sinks
     is "012042004d00580063006e00790084008f009a00a500b000bb00c600d100dc00e700f200fd00080113011e01290134013f014a01550160016b01760181018c0197010104011f000000000000000104011f000000000000000104011f000000000000000104011f000000000000000104011f000000000000000104011f000000000000000104011f000000000000000104011f000000000000000104011f000000000000000104011f000000000000000104011f000000000000000104011f000000000000000104011f000000000000000104011f000000000000000104011f000000000000000104011f000000000000000104011f000000000000000104011f000000000000000104011f000000000000000104011f000000000000000104011f000000000000000104011f000000000000000104011f000000000000000104011f000000000000000104011f000000000000000104011f000000000000000104011f000000000000000104011f000000000000000104011f000000000000000104011f000000000000000104011f000000000000000104011f00000000000000" 0 0 ∷
     -- 01 00: no node, and below
@@ -180,56 +184,61 @@ abbrev part : ℕ → ℕ → Part
 part at len = record { at = at; len = len }
 
 -- 01 00: no node
-empty : chart (hex "0100") ≡ ready []
+empty : chart Strict (hex "0100") ≡ ready []
 unfolding chart
 empty = refl
 
 -- document 02, L1: no byte, the same
-noByte : chart (hex "") ≡ ready []
+noByte : chart Strict (hex "") ≡ ready []
 unfolding chart
 noByte = refl
 
 -- the worked chart
-worked : chart (hex "010206000b000000010100000000") ≡ ready (record { sources = []; lines = []; sinks = record { to = 1; text = part 11 0 } ∷ [] } ∷ record { sources = []; lines = []; sinks = [] } ∷ [])
+worked : chart Strict (hex "010206000b000000010100000000") ≡ ready (record { sources = []; lines = []; sinks = record { to = 1; text = part 11 0 } ∷ [] } ∷ record { sources = []; lines = []; sinks = [] } ∷ [])
 unfolding chart
 worked = refl
 
 -- texts of all three kinds
-one : chart (hex "010104000102020002696e024120017e00036f75740000") ≡ ready (record { sources = record { to = 0; text = part 9 2 } ∷ []; lines = part 12 2 ∷ part 15 1 ∷ []; sinks = record { to = 0; text = part 18 3 } ∷ record { to = 0; text = part 23 0 } ∷ [] } ∷ [])
+one : chart Strict (hex "010104000102020002696e024120017e00036f75740000") ≡ ready (record { sources = record { to = 0; text = part 9 2 } ∷ []; lines = part 12 2 ∷ part 15 1 ∷ []; sinks = record { to = 0; text = part 18 3 } ∷ record { to = 0; text = part 23 0 } ∷ [] } ∷ [])
 unfolding chart
 one = refl
 
 -- three nodes
-three : chart (hex "010308000b00120000000001010000000178000001010179") ≡ ready (record { sources = []; lines = []; sinks = [] } ∷ record { sources = record { to = 0; text = part 16 0 } ∷ []; lines = part 17 1 ∷ []; sinks = [] } ∷ record { sources = []; lines = []; sinks = record { to = 1; text = part 23 1 } ∷ [] } ∷ [])
+three : chart Strict (hex "010308000b00120000000001010000000178000001010179") ≡ ready (record { sources = []; lines = []; sinks = [] } ∷ record { sources = record { to = 0; text = part 16 0 } ∷ []; lines = part 17 1 ∷ []; sinks = [] } ∷ record { sources = []; lines = []; sinks = record { to = 1; text = part 23 1 } ∷ [] } ∷ [])
 unfolding chart
 three = refl
 
 -- accepted: 32 and 126
-r9c : chart (hex "0101040000010002207e") ≡ ready (record { sources = []; lines = part 8 2 ∷ []; sinks = [] } ∷ [])
+r9c : chart Strict (hex "0101040000010002207e") ≡ ready (record { sources = []; lines = part 8 2 ∷ []; sinks = [] } ∷ [])
 unfolding chart
 r9c = refl
 
 -- accepted: a text of 24
-r8-24 : chart (hex "0101040000010018616161616161616161616161616161616161616161616161") ≡ ready (record { sources = []; lines = part 8 24 ∷ []; sinks = [] } ∷ [])
+r8-24 : chart Strict (hex "0101040000010018616161616161616161616161616161616161616161616161") ≡ ready (record { sources = []; lines = part 8 24 ∷ []; sinks = [] } ∷ [])
 unfolding chart
 r8-24 = refl
 
 -- a degree sign: one character
-sign : chart (hex "0101040000010002c2b0") ≡ ready (record { sources = []; lines = part 8 1 ∷ []; sinks = [] } ∷ [])
+sign : chart Strict (hex "0101040000010002c2b0") ≡ ready (record { sources = []; lines = part 8 1 ∷ []; sinks = [] } ∷ [])
 unfolding chart
 sign = refl
 
 -- 45 degrees: three
-angle : chart (hex "01010400000100043435c2b0") ≡ ready (record { sources = []; lines = part 8 3 ∷ []; sinks = [] } ∷ [])
+angle : chart Strict (hex "01010400000100043435c2b0") ≡ ready (record { sources = []; lines = part 8 3 ∷ []; sinks = [] } ∷ [])
 unfolding chart
 angle = refl
 
 -- 24 bytes: twelve
-signs : chart (hex "0101040000010018c2b0c2b0c2b0c2b0c2b0c2b0c2b0c2b0c2b0c2b0c2b0c2b0") ≡ ready (record { sources = []; lines = part 8 12 ∷ []; sinks = [] } ∷ [])
+signs : chart Strict (hex "0101040000010018c2b0c2b0c2b0c2b0c2b0c2b0c2b0c2b0c2b0c2b0c2b0c2b0") ≡ ready (record { sources = []; lines = part 8 12 ∷ []; sinks = [] } ∷ [])
 unfolding chart
 signs = refl
 
 -- in texts of all three kinds
-kinds : chart (hex "010104000102020002c2b003c2b04303616263000330c2b00000") ≡ ready (record { sources = record { to = 0; text = part 9 1 } ∷ []; lines = part 12 2 ∷ part 16 3 ∷ []; sinks = record { to = 0; text = part 21 2 } ∷ record { to = 0; text = part 26 0 } ∷ [] } ∷ [])
+kinds : chart Strict (hex "010104000102020002c2b003c2b04303616263000330c2b00000") ≡ ready (record { sources = record { to = 0; text = part 9 1 } ∷ []; lines = part 12 2 ∷ part 16 3 ∷ []; sinks = record { to = 0; text = part 21 2 } ∷ record { to = 0; text = part 26 0 } ∷ [] } ∷ [])
 unfolding chart
 kinds = refl
+
+-- 'A target not below n is now drawn by default'
+lead : chart Default (hex "01010400000001c800") ≡ ready (record { sources = []; lines = []; sinks = record { to = 200; text = part 9 0 } ∷ [] } ∷ [])
+unfolding chart
+lead = refl

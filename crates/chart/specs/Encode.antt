@@ -2,11 +2,14 @@
 -- written so, is accepted and read as itself.
 -- Assumes nothing.
 use Prim.Native.Nat.{ℕ, zero, suc, _+_, _*_, _/_, _%_, _≤_, _<_}
+use mathlib.Core.Path.{_≡_}
 use mathlib.Core.List.{List, [], _∷_, _++_}
 use lib.ListN.{length}
 use Rattle.chart.specs.Chart.{Part, End, Node, Board}
 use Rattle.chart.specs.Text.{Texted, charactersIn}
 use Rattle.laws.specs.Lists.{All}
+use Rattle.chart.specs.declared.Setting.{Setting}
+use Rattle.chart.specs.declared.Setting.the-variants.{Strict}
 
 -- a node with its texts themselves
 pub record Written : Type 0 where
@@ -81,22 +84,24 @@ pub record TextWithin (t : List ℕ) : Type 0 where
   -- 'text bytes 32 to 126', and degree signs
   pub texted : Texted t
 
-pub record EndWithin (n : ℕ) (e : Written) : Type 0 where
-  pub target : e .to < n
+pub record EndWithin (w : Setting) (n : ℕ) (e : Written) : Type 0 where
+  pub byte : e .to < 256
+  -- 'A strict setting .. keeps refusal 12'
+  pub target : w ≡ Strict → e .to < n
   pub text : TextWithin (e .text)
 
-pub record NodeWithin (n : ℕ) (p : Drawn) : Type 0 where
-  pub sources : All (EndWithin n) (p .sources)
+pub record NodeWithin (w : Setting) (n : ℕ) (p : Drawn) : Type 0 where
+  pub sources : All (EndWithin w n) (p .sources)
   pub lines : All TextWithin (p .lines)
   -- 'lines 0 to 4'
   pub few : length (p .lines) ≤ 4
-  pub sinks : All (EndWithin n) (p .sinks)
+  pub sinks : All (EndWithin w n) (p .sinks)
 
 abbrev pub drawnEnds : List Drawn → ℕ
 drawnEnds [] = 0
 drawnEnds (p ∷ ps) = length (p .sources) + length (p .sinks) + drawnEnds ps
 
-pub record Within (ps : List Drawn) : Type 0 where
+pub record Within (w : Setting) (ps : List Drawn) : Type 0 where
   pub nodes : length ps ≤ 32
-  pub each : All (NodeWithin (length ps)) ps
+  pub each : All (NodeWithin w (length ps)) ps
   pub ends : drawnEnds ps ≤ 64

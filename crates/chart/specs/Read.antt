@@ -6,6 +6,7 @@ use mathlib.Core.List.{List, []}
 use Rattle.chart.specs.declared.Answer.{Answer}
 use Rattle.chart.specs.declared.Answer.the-variants.{Ready, Refused}
 use Rattle.chart.specs.declared.Outcome.{Outcome}
+use Rattle.chart.specs.declared.Setting.{Setting}
 use Rattle.chart.specs.Chart.{Board, Reading, ready, refusal, chart}
 use Rattle.chart.specs.Tables.{boardTables}
 use Rattle.chart.specs.Accepted.{Accepted}
@@ -27,10 +28,10 @@ abbrev pub outcomeOf : Reading → Outcome
 outcomeOf (ready ps) = record { answer = Ready; board = boardTables ps }
 outcomeOf (refusal number second) = record { answer = Refused number second; board = boardTables [] }
 
--- r is what the chart s is read as
-pub record IsRead (s : List ℕ) (r : Outcome) : Type 0 where
+-- r is what the chart s is read as in the setting w
+pub record IsRead (w : Setting) (s : List ℕ) (r : Outcome) : Type 0 where
   -- every field, past the counts too; a refusal is document 01's two numbers
-  pub whole : r ≡ outcomeOf (chart s)
-  pub refused : (number second : ℕ) → chart s ≡ refusal number second → numbersOf (r .answer) ≡ numbers number second
+  pub whole : r ≡ outcomeOf (chart w s)
+  pub refused : (number second : ℕ) → chart w s ≡ refusal number second → numbersOf (r .answer) ≡ numbers number second
   -- an accepted chart is within document 01's limits
-  pub limits : (ps : Board) → chart s ≡ ready ps → Accepted s ps
+  pub limits : (ps : Board) → chart w s ≡ ready ps → Accepted w s ps

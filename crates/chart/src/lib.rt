@@ -16,6 +16,12 @@ pub const BYTE_C2: u8 = 0xc2;
 
 pub const BYTE_B0: u8 = 0xb0;
 
+// What becomes of a target that isn't a node: by default it is drawn, strict refuses it (12).
+pub enum Setting {
+    Default,
+    Strict,
+}
+
 // A source or a sink: its node, its target, its text's place in the chart, and how many characters that has.
 pub struct Item {
     pub owner: u8,
@@ -89,8 +95,8 @@ fn under_two(len: usize) -> Outcome
 }
 
 // Refusals 11 and 12.
-fn judged(board: Board) -> Outcome
-    ensures { λ r. ⌜ r ≡ judgedOf board ⌝ }
+fn judged(board: Board, setting: Setting) -> Outcome
+    ensures { λ r. ⌜ r ≡ judgedOf setting board ⌝ }
 {
     let sources = board.sources.count;
     if sources > 64 {
@@ -99,7 +105,7 @@ fn judged(board: Board) -> Outcome
     if board.sinks.count > 64 - sources {
         return refused(11, 0);
     }
-    let found = judge::first_outside(board);
+    let found = judge::outside_in(board, setting);
     match found {
         Outside::Nothing => Outcome {
             answer: Answer::Ready,
@@ -111,19 +117,19 @@ fn judged(board: Board) -> Outcome
 
 // Refusals 10 to 12, of the nodes of a chart of len bytes. (A function of its own, for the memory: with one more test before it `judged` has a frame on top of
 // its caller's, since the compiler takes its call to be rare.)
-fn closed(nodes: Nodes, len: usize) -> Outcome
-    ensures { λ r. ⌜ r ≡ closedOf nodes len ⌝ }
+fn closed(nodes: Nodes, len: usize, setting: Setting) -> Outcome
+    ensures { λ r. ⌜ r ≡ closedOf setting nodes len ⌝ }
 {
     if nodes.end < len {
         return refused(10, 0);
     }
     let board = nodes.board;
-    judged(board)
+    judged(board, setting)
 }
 
 // A chart: its board, or the first refusal of 1 to 12.
-pub fn read(chart: &[u8]) -> Outcome
-    ensures { λ r. ⌜ IsRead (now (chart .entry)) r ⌝ }
+pub fn read(chart: &[u8], setting: Setting) -> Outcome
+    ensures { λ r. ⌜ IsRead setting (now (chart .entry)) r ⌝ }
 {
     if chart.len() < 2 {
         return under_two(chart.len());
@@ -142,5 +148,5 @@ pub fn read(chart: &[u8]) -> Outcome
     if nodes.refused != 0 {
         return refused(nodes.refused, 0);
     }
-    closed(nodes, chart.len())
+    closed(nodes, chart.len(), setting)
 }

@@ -9,8 +9,10 @@ ghost use Rattle.grid.specs.Labels.{labelOf};
 ghost use Rattle.grid.specs.Record.{soundOf};
 ghost use Rattle.grid.specs.RenderGrid.{Sheet};
 ghost use Rattle.grid.specs.Sheeted.{ready, sheeted};
+ghost use Rattle.path.specs.Label.{standIns};
 ghost use Rattle.path.specs.Promises.{IsWritten};
 use chart::Answer;
+use chart::Setting;
 use grid::SheetRecord;
 use libc::STDERR_FILENO;
 use libc::STDOUT_FILENO;
@@ -108,16 +110,18 @@ fn put_label(l: LabelAnswer, text: &[u8]) {
 }
 
 // Label i of box k. Whether there is such a label: of a chart that has a sheet, one that is refused isn't there.
-fn draw_label(chart: &[u8], k: usize, i: usize) -> bool
-    ensures { λ r. ⌜ ((sh : Sheet) → sheeted (now (chart .entry)) 0 0 ≡ ready sh → r ≡ labelOf sh k i .found) ⌝ }
+fn draw_label<'a>(chart: &'a [u8], table: &'a [u8], k: usize, i: usize) -> bool
+    requires { ⌜ now table ≡ standIns ⌝ }
+    ensures { λ r. ⌜ ((sh : Sheet) → sheeted Setting.Default (now (chart .entry)) 0 0 ≡ ready sh → r ≡ labelOf sh k i .found) ⌝ }
 {
-    let table =
-        b"#0#1#2#3#4#5#6#7#8#9#10#11#12#13#14#15#16#17#18#19#20#21#22#23#24#25#26#27#28#29#30#31";
-    let l = path::label_place(chart, 0, 0, table, k, i);
+    let l = path::label_place(chart, 0, 0, Setting::Default, table, k, i);
     let a = l.answer;
     match a {
         Answer::Ready => {
-            put_label(l, path::label_part(chart, 0, 0, table, k, i));
+            put_label(
+                l,
+                path::label_part(chart, 0, 0, Setting::Default, table, k, i),
+            );
             true
         }
         Answer::Refused(_, _) => false,
@@ -125,10 +129,12 @@ fn draw_label(chart: &[u8], k: usize, i: usize) -> bool
 }
 
 // The labels of box k: at most 68, since a chart has at most 64 sources and sinks, and a box 4 lines.
-fn draw_box_labels(chart: &[u8], k: usize) {
+fn draw_box_labels<'a>(chart: &'a [u8], table: &'a [u8], k: usize)
+    requires { ⌜ now table ≡ standIns ⌝ }
+{
     let mut i = 0usize;
     while i < 68 {
-        if !draw_label(chart, k, i) {
+        if !draw_label(chart, table, k, i) {
             return;
         }
         i += 1;
@@ -137,9 +143,10 @@ fn draw_box_labels(chart: &[u8], k: usize) {
 
 // The labels of every box.
 fn draw_labels(chart: &[u8], count: u8) {
+    let table = path::stand_ins();
     let mut k = 0usize;
     while k < count as usize {
-        draw_box_labels(chart, k);
+        draw_box_labels(chart, &table, k);
         k += 1;
     }
 }
@@ -163,7 +170,7 @@ fn refuse(first: u8, second: u32) {
 }
 
 fn draw(chart: &[u8]) {
-    let r = grid::sheet(chart, 0, 0);
+    let r = grid::sheet(chart, 0, 0, Setting::Default);
     let a = r.answer;
     let s = r.sheet;
     match a {

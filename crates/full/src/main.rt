@@ -1,5 +1,6 @@
 // Charts in hexadecimal, one on each line of standard input: the listing of each, as the program `replay` prints it, its labels, the ends of its
 // curves, and an empty line. A label is `text BOX LABEL X Y SIZE WIDTH TEXT`, a curve `curve NUMBER X0 Y0 X1 Y1`: the lines of `oracle --full`.
+// A line that begins with `D` is a chart in the default setting; any other is strict.
 ghost use mathlib.Core.Path.{_≡_};
 ghost use mathlib.Core.Bool.{true};
 ghost use Prim.Native.Nat.{_≤_};
@@ -8,6 +9,7 @@ ghost use Rattle.io.specs.Counts.{Counts};
 ghost use Rattle.grid.specs.Record.{soundOf};
 ghost use Rattle.path.specs.Promises.{IsWritten};
 use chart::Answer;
+use chart::Setting;
 use grid::BoxRecord;
 use grid::Curve;
 use grid::SheetRecord;
@@ -90,14 +92,12 @@ fn print_text(k: usize, i: usize, l: LabelAnswer, text: &[u8]) {
 }
 
 // Label i of box k. Whether there is such a label.
-fn print_label(chart: &[u8], k: usize, i: usize) -> bool {
-    let table =
-        b"#0#1#2#3#4#5#6#7#8#9#10#11#12#13#14#15#16#17#18#19#20#21#22#23#24#25#26#27#28#29#30#31";
-    let l = path::label_place(chart, 0, 0, table, k, i);
+fn print_label<'a>(chart: &'a [u8], setting: Setting, table: &'a [u8], k: usize, i: usize) -> bool {
+    let l = path::label_place(chart, 0, 0, setting, table, k, i);
     let a = l.answer;
     match a {
         Answer::Ready => {
-            let text = path::label_part(chart, 0, 0, table, k, i);
+            let text = path::label_part(chart, 0, 0, setting, table, k, i);
             print_text(k, i, l, text);
             true
         }
@@ -106,10 +106,10 @@ fn print_label(chart: &[u8], k: usize, i: usize) -> bool {
 }
 
 // The labels of box k: at most 68, since a chart has at most 64 sources and sinks, and a box 4 lines.
-fn print_box_labels(chart: &[u8], k: usize) {
+fn print_box_labels<'a>(chart: &'a [u8], setting: Setting, table: &'a [u8], k: usize) {
     let mut i = 0usize;
     while i < 68 {
-        if !print_label(chart, k, i) {
+        if !print_label(chart, setting, table, k, i) {
             return;
         }
         i += 1;
@@ -117,10 +117,11 @@ fn print_box_labels(chart: &[u8], k: usize) {
 }
 
 // The labels of every box.
-fn print_labels(chart: &[u8], count: u8) {
+fn print_labels(chart: &[u8], setting: Setting, count: u8) {
+    let table = path::stand_ins();
     let mut k = 0usize;
     while k < count as usize {
-        print_box_labels(chart, k);
+        print_box_labels(chart, setting, &table, k);
         k += 1;
     }
 }
@@ -163,24 +164,32 @@ fn print_refusal(first: u8, second: u32) {
     put(b"\n");
 }
 
-fn print_chart(chart: &[u8]) {
-    let r = grid::sheet(chart, 0, 0);
+fn print_chart(chart: &[u8], setting: Setting) {
+    let r = grid::sheet(chart, 0, 0, setting);
     let a = r.answer;
     let s = r.sheet;
     match a {
         Answer::Ready => {
             print_sheet(s);
-            print_labels(chart, s.count);
+            print_labels(chart, setting, s.count);
             print_curves(s);
         }
         Answer::Refused(first, second) => print_refusal(first, second),
     }
 }
 
-fn print_hex(text: &[u8]) {
+// The setting of a line's chart.
+fn setting_of(line: &[u8]) -> Setting {
+    if lines::is_default(line) {
+        return Setting::Default;
+    }
+    Setting::Strict
+}
+
+fn print_hex(line: &[u8]) {
     let mut chart = [0u8; 8192];
-    let n = lines::decode(text, &mut chart);
-    print_chart(&chart[..n]);
+    let n = lines::decode(lines::digits(line), &mut chart);
+    print_chart(&chart[..n], setting_of(line));
     put(b"\n");
 }
 

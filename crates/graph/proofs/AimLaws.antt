@@ -1,4 +1,4 @@
--- Each source and each sink leads to a node, and each cut adds two nodes.
+-- Where each source and each sink leads to a node, cutting keeps that, and each cut adds two nodes.
 -- Assumes nothing.
 use Prim.Native.Nat.{ℕ, zero, suc, _+_, _*_, _≤_, _<_}
 use native.Mathlib.Omega.{arith}
@@ -13,7 +13,7 @@ use Rattle.laws.proofs.Lists.{all-map, all-join, all-made}
 use Rattle.laws.proofs.Tests.{pick}
 use Rattle.graph.specs.Graph.{Edge, Node, Graph, noText, noEdge, bare, nodeAt, leadsTo, hasMarked, withSources, withSinks}
 use Rattle.graph.specs.Completion.{gainSource, marked, gainSink, complete}
-use Rattle.graph.specs.Cutting.{turned, pointed, firstNode, secondNode, cutGraph, cutting}
+use Rattle.graph.specs.Cutting.{turned, pointed, firstNode, secondNode, cutGraph, reached, cutting}
 use Rattle.graph.specs.Laws.{Leads, Aimed, SinkAt}
 use Rattle.graph.proofs.Resumes.{length-cut}
 use Rattle.graph.proofs.Keeps.{cutting-keeps}
@@ -48,26 +48,28 @@ sinks-aim n g p es h a = all-set (Leads n) g p _ (record { sources = node-aims n
 abbrev pub To : ℕ → Edge → Type 0
 To n e = e .to < n
 
-pub gain-source-aims : (n : ℕ) (g : Graph) (p i q : ℕ) → p < n → SinkAt g p i q → Aimed n g → Aimed n (gainSource g p i q)
-gain-source-aims n g p i q l s a =
-    let es : List Edge = nodeAt g q .sources in
-    let new : List Edge = one (record { to = p; mark = some i; text = noText }) in
-    pick (Aimed n) (hasMarked es p i) g (withSources g q (es ++ new)) a (sources-aim n g q (es ++ new) (all-join (To n) es new (node-aims n g q a .sources) (l, tt)) a)
+-- completion keeps a bound of the targets
+module _ (m n : ℕ) (le : n ≤ m) where
+  pub gain-source-aims : (g : Graph) (p i q : ℕ) → p < n → q < length g → SinkAt g p i q → Aimed m g → Aimed m (gainSource g p i q)
+  gain-source-aims g p i q l t s a =
+      let es : List Edge = nodeAt g q .sources in
+      let new : List Edge = one (record { to = p; mark = some i; text = noText }) in
+      pick (Aimed m) (hasMarked es p i) g (withSources g q (es ++ new)) a (sources-aim m g q (es ++ new) (all-join (To m) es new (node-aims m g q a .sources) (omega arith, tt)) a)
 
-pub gain-sink-aims : (n : ℕ) (g : Graph) (p j : ℕ) (e : Edge) → p < n → SourceAt g p j e → Aimed n g → Aimed n (gainSink g p j e)
-gain-sink-aims n g p j e l s a =
-    let es : List Edge = nodeAt g (e .to) .sinks in
-    let new : List Edge = one (record { to = p; mark = none; text = noText }) in
-    let h : Graph = withSinks g (e .to) (es ++ new) in
-    let to-in : e .to < n = subst (λ (k : ℕ). k < n) (ap (λ (x : Edge). x .to) (s .is)) (all-in (To n) (nodeAt g p .sources) j noEdge (s .inside) (node-aims n g p a .sources)) in
-    let b : Aimed n h = sinks-aim n g (e .to) (es ++ new) (all-join (To n) es new (node-aims n g (e .to) a .sinks) (l, tt)) a in
-    pick (Aimed n) (leadsTo es p) g (withSources h p (set (nodeAt h p .sources) j (marked (length es) e))) a
-    (sources-aim n h p (set (nodeAt h p .sources) j (marked (length es) e)) (all-set (To n) (nodeAt h p .sources) j (marked (length es) e) to-in (node-aims n h p b .sources)) b)
+  pub gain-sink-aims : (g : Graph) (p j : ℕ) (e : Edge) → p < n → e .to < length g → SourceAt g p j e → Aimed m g → Aimed m (gainSink g p j e)
+  gain-sink-aims g p j e l t s a =
+      let es : List Edge = nodeAt g (e .to) .sinks in
+      let new : List Edge = one (record { to = p; mark = none; text = noText }) in
+      let h : Graph = withSinks g (e .to) (es ++ new) in
+      let to-in : e .to < m = subst (λ (k : ℕ). k < m) (ap (λ (x : Edge). x .to) (s .is)) (all-in (To m) (nodeAt g p .sources) j noEdge (s .inside) (node-aims m g p a .sources)) in
+      let b : Aimed m h = sinks-aim m g (e .to) (es ++ new) (all-join (To m) es new (node-aims m g (e .to) a .sinks) (omega arith, tt)) a in
+      pick (Aimed m) (leadsTo es p) g (withSources h p (set (nodeAt h p .sources) j (marked (length es) e))) a
+      (sources-aim m h p (set (nodeAt h p .sources) j (marked (length es) e)) (all-set (To m) (nodeAt h p .sources) j (marked (length es) e) to-in (node-aims m h p b .sources)) b)
 
-pub complete-aims : (g : Graph) → Aimed (length g) g → Aimed (length g) (complete g)
-complete-aims g a = complete-holds (length g) (Aimed (length g)) (gain-source-aims (length g)) (gain-sink-aims (length g)) g refl a
+  pub complete-aims : (g : Graph) → length g ≡ n → Aimed m g → Aimed m (complete g)
+  complete-aims g e a = complete-holds n (Aimed m) gain-source-aims gain-sink-aims g e a
 
-leads-more : (n m : ℕ) → n ≤ m → (x : Node) → Leads n x → Leads m x
+pub leads-more : (n m : ℕ) → n ≤ m → (x : Node) → Leads n x → Leads m x
 leads-more n m l x a = record { sources = all-map (λ e h. omega (arith, h)) (x .sources) (a .sources); sinks = all-map (λ e h. omega (arith, h)) (x .sinks) (a .sinks) }
 
 turned-aims : (n c to : ℕ) → to < n → (es : List Edge) → All (To n) es → All (To n) (map (turned c to) es)
@@ -90,11 +92,11 @@ cut-aims g c s e hc hq a =
 
 pub cutting-aims : (g : Graph) → Aimed (length g) g → Aimed (length (cutting g .graph)) (cutting g .graph)
 cutting-aims g a =
-    cutting-keeps (length g) (λ w. Aimed (length (w .graph)) (w .graph)) (λ w c x h. h)
-    (λ w c s hc hs hq lo h. cut-aims (w .graph) c s (getD (nodeAt (w .graph) c .sinks) s noEdge) (omega arith) (omega arith) h) g refl a .keeps
+    cutting-keeps (length g) (reached g) (λ w. Aimed (length (w .graph)) (w .graph)) (λ w c x h. h)
+    (λ w c s hc hs hq lo bz fr h. cut-aims (w .graph) c s (getD (nodeAt (w .graph) c .sinks) s noEdge) (omega arith) (omega arith) h) g refl refl a .keeps
 
 -- ---- two nodes a cut
 pub cutting-count : (g : Graph) → length (cutting g .graph) ≡ length g + 2 * cutting g .cuts
 cutting-count g =
-    cutting-keeps (length g) (λ w. length (w .graph) ≡ length g + 2 * w .cuts) (λ w c x h. h)
-    (λ w c s hc hs hq lo h. omega (arith, h, length-cut (w .graph) c s (getD (nodeAt (w .graph) c .sinks) s noEdge))) g refl (omega arith) .keeps
+    cutting-keeps (length g) (reached g) (λ w. length (w .graph) ≡ length g + 2 * w .cuts) (λ w c x h. h)
+    (λ w c s hc hs hq lo bz fr h. omega (arith, h, length-cut (w .graph) c s (getD (nodeAt (w .graph) c .sinks) s noEdge))) g refl refl (omega arith) .keeps

@@ -3,12 +3,15 @@
 use Prim.Native.Nat.{ℕ, zero, suc, _<_}
 use native.Mathlib.Omega.{arith}
 use mathlib.Core.Path.{_≡_, refl, ap, sym, _∙_}
+use mathlib.Core.Bool.{cond}
 use mathlib.Core.Option.{none}
 use mathlib.Core.List.{List, [], _∷_, _++_, map}
+use lib.Dec.{ltb}
 use lib.ListN.{length, getD, set, drop, length-map, List·getD-map}
 use lib.Seq.{map-set-same}
+use borrow.Author.Tests.{ltb-true}
 use Rattle.laws.specs.Lists.{one}
-use Rattle.laws.proofs.Tests.{pick}
+use Rattle.laws.proofs.Tests.{pick, pick-by}
 use Rattle.graph.specs.Graph.{Edge, Node, Graph, noText, noEdge, bare, nodeAt, leadsTo, hasMarked, withSources, withSinks}
 use Rattle.graph.specs.Completion.{gainSource, completeSinks, marked, gainSink, completeSources, complete}
 use Rattle.graph.specs.Laws.{SinkAt}
@@ -61,30 +64,39 @@ pub record SourceAt (g : Graph) (p j : ℕ) (e : Edge) : Type 0 where
   pub inside : j < length (nodeAt g p .sources)
   pub is : unmark (getD (nodeAt g p .sources) j noEdge) ≡ unmark e
 
+-- the sinks of p: each gain is at a sink that leads to a node
 module _ (n : ℕ) (P : Graph → Type 0)
-    (gain-source : (g : Graph) (p i q : ℕ) → p < n → SinkAt g p i q → P g → P (gainSource g p i q)) where
+    (gain-source : (g : Graph) (p i q : ℕ) → p < n → q < length g → SinkAt g p i q → P g → P (gainSource g p i q)) where
   pub sinks-hold : (es : List Edge) (g : Graph) (p i : ℕ) → p < n → drop i (nodeAt g p .sinks) ≡ es → P g → P (completeSinks g p i es)
   sinks-hold [] g p i l e h = h
   sinks-hold (x ∷ es) g p i l e h =
       let f = drop-head (nodeAt g p .sinks) i x es noEdge e in
-      sinks-hold es (gainSource g p i (x .to)) p (suc i) l
-      (ap (drop (suc i)) (sinks-at g (gainSource g p i (x .to)) (gain-source-sinks g p i (x .to)) p) ∙ f .2)
-      (gain-source g p i (x .to) l (record { inside = f .0; leads = ap (λ (y : Edge). y .to) (f .1) }) h)
+      let u : Graph = cond (ltb (x .to) (length g)) (gainSource g p i (x .to)) g in
+      let same : sinksIn u ≡ sinksIn g = pick (λ k. sinksIn k ≡ sinksIn g) (ltb (x .to) (length g)) (gainSource g p i (x .to)) g (gain-source-sinks g p i (x .to)) refl in
+      sinks-hold es u p (suc i) l
+      (ap (drop (suc i)) (sinks-at g u same p) ∙ f .2)
+      (pick-by P (ltb (x .to) (length g)) (gainSource g p i (x .to)) g
+      (λ z. gain-source g p i (x .to) l (ltb-true (x .to) (length g) z) (record { inside = f .0; leads = ap (λ (y : Edge). y .to) (f .1) }) h)
+      (λ z. h))
 
 module _ (n : ℕ) (P : Graph → Type 0)
-    (gain-sink : (g : Graph) (p j : ℕ) (e : Edge) → p < n → SourceAt g p j e → P g → P (gainSink g p j e)) where
+    (gain-sink : (g : Graph) (p j : ℕ) (e : Edge) → p < n → e .to < length g → SourceAt g p j e → P g → P (gainSink g p j e)) where
   pub sources-hold : (es : List Edge) (g : Graph) (p j : ℕ) → p < n → drop j (map unmark (nodeAt g p .sources)) ≡ map unmark es → P g → P (completeSources g p j es)
   sources-hold [] g p j l e h = h
   sources-hold (x ∷ es) g p j l e h =
       let f = drop-head (map unmark (nodeAt g p .sources)) j (unmark x) (map unmark es) noEdge e in
       let is : unmark (getD (nodeAt g p .sources) j noEdge) ≡ unmark x = sym (List·getD-map unmark (nodeAt g p .sources) j noEdge) ∙ f .1 in
-      sources-hold es (gainSink g p j x) p (suc j) l
-      (ap (drop (suc j)) (sources-at g (gainSink g p j x) (gain-sink-sources g p j x is) p) ∙ f .2)
-      (gain-sink g p j x l (record { inside = omega (arith, f .0, length-map (nodeAt g p .sources) unmark); is = is }) h)
+      let u : Graph = cond (ltb (x .to) (length g)) (gainSink g p j x) g in
+      let same : sourcesIn u ≡ sourcesIn g = pick (λ k. sourcesIn k ≡ sourcesIn g) (ltb (x .to) (length g)) (gainSink g p j x) g (gain-sink-sources g p j x is) refl in
+      sources-hold es u p (suc j) l
+      (ap (drop (suc j)) (sources-at g u same p) ∙ f .2)
+      (pick-by P (ltb (x .to) (length g)) (gainSink g p j x) g
+      (λ z. gain-sink g p j x l (ltb-true (x .to) (length g) z) (record { inside = omega (arith, f .0, length-map (nodeAt g p .sources) unmark); is = is }) h)
+      (λ z. h))
 
 module _ (n : ℕ) (P : Graph → Type 0)
-    (gain-source : (g : Graph) (p i q : ℕ) → p < n → SinkAt g p i q → P g → P (gainSource g p i q))
-    (gain-sink : (g : Graph) (p j : ℕ) (e : Edge) → p < n → SourceAt g p j e → P g → P (gainSink g p j e)) where
+    (gain-source : (g : Graph) (p i q : ℕ) → p < n → q < length g → SinkAt g p i q → P g → P (gainSource g p i q))
+    (gain-sink : (g : Graph) (p j : ℕ) (e : Edge) → p < n → e .to < length g → SourceAt g p j e → P g → P (gainSink g p j e)) where
   pub complete-holds : (g : Graph) → length g ≡ n → P g → P (complete g)
   complete-holds g e h =
       complete-keeps P g

@@ -11,7 +11,7 @@ use mathlib.Core.List.{List, [], _∷_, _++_, map, append-nil, append-assoc}
 use lib.Dec.{eqb}
 use lib.ListN.{length, getD, set, take, drop, length-append, length-set, List·getD-append}
 use lib.Seq.{getD-set-same, getD-set-other, set-split, split-at, take-suc, set-at, getD-at, getD-append-add}
-use borrow.Author.Tests.{eq-eqb, ne-eqb, eqb-true}
+use borrow.Author.Tests.{eq-eqb, ne-eqb, eqb-true, lt-ltb}
 use Rattle.laws.specs.Lists.{keep, one, tabulate}
 use Rattle.laws.proofs.Tests.{pick-through}
 use Rattle.laws.proofs.Lists.{length-tabulate, all-map, tabulate-set, tabulate-same, tabulate-snoc}
@@ -148,6 +148,10 @@ below-set n (x ∷ xs) (suc k) y h a = (a .0, below-set n xs k y h (a .1))
 pub below-one : (n m : ℕ) (xs : List Item) (r : Item) → n ≤ m → r .owner < m → Below n xs → Below m (xs ++ one r)
 below-one n m [] r l h a = (h, tt)
 below-one n m (x ∷ xs) r l h a = (omega (arith, a .0), below-one n m xs r l h (a .1))
+
+pub below-more : (n m : ℕ) (xs : List Item) → n ≤ m → Below n xs → Below m xs
+below-more n m [] l a = tt
+below-more n m (x ∷ xs) l a = (omega (arith, a .0), below-more n m xs l (a .1))
 
 pub none-owned : (n p : ℕ) → n ≤ p → (xs : List Item) → Below n xs → owned p xs ≡ []
 none-owned n p l [] a = refl
@@ -303,7 +307,7 @@ pub texted-more : (n m : ℕ) → n ≤ m → (ts : List LineItem) → Texted n 
 texted-more n m l ts a = all-map (λ x h. omega (arith, h)) ts a
 
 -- the lines of two nodes more, each the Debug text of q
-module _ (ts : List LineItem) (names : List ℕ) (n q : ℕ) (h : n + 2 ≤ length names) (l : q < 255) (a : Texted n ts) where
+module _ (ts : List LineItem) (names : List ℕ) (n q : ℕ) (h : n + 2 ≤ length names) (l : q < 256) (a : Texted n ts) where
   abbrev renamed : List ℕ
   renamed = set (set names n q) (n + 1) q
 
@@ -313,7 +317,7 @@ module _ (ts : List LineItem) (names : List ℕ) (n q : ℕ) (h : n + 2 ≤ leng
       rw e
 
   line-new : (p : ℕ) → n ≤ p → getD renamed p 0 ≡ q → linesAt ts renamed p ≡ one (number q)
-  line-new p i e = rw (e, texted-none n p i ts a, ne-eqb q 255 (λ z. omega arith))
+  line-new p i e = rw (e, texted-none n p i ts a, ne-eqb q 512 (λ z. omega arith), lt-ltb q 256 l)
 
   pub lines-more : tabulate (linesAt ts renamed) 0 (n + 2) ≡ tabulate (linesAt ts names) 0 n ++ (one (number q) ∷ one (number q) ∷ [])
   lines-more =

@@ -16,6 +16,7 @@ use Rattle.graph.specs.declared.Table.{Table}
 use Rattle.graph.specs.declared.Tables.{Tables}
 use Rattle.graph.specs.declared.Outcome.{Outcome}
 use Rattle.graph.specs.Graph.{Edge, Graph, bare, nodeAt}
+use Rattle.chart.specs.declared.Setting.{Setting}
 use Rattle.graph.specs.Graphed.{Graphed, ready, refusal, graphed}
 use Rattle.graph.specs.Outcome.{sourcesFrom, sinksFrom, outcomeOf}
 use Rattle.graph.specs.code.Graphs.{Graphs}
@@ -83,9 +84,9 @@ items-long : (g : Graphed) → (length (outcomeOf g .graph .sources .items) ≡ 
 items-long (ready d) = (length-padded 88 noItem (sourcesFrom 0 (d .graph)), length-padded 88 noItem (sinksFrom 0 (d .graph)))
 items-long (refusal a b) = (refl, refl)
 
-module _ (s : List ℕ) (r : Outcome) (a : Graphs s r) where
+module _ (w : Setting) (s : List ℕ) (r : Outcome) (a : Graphs w s r) where
   pub sources-long : length (r .graph .sources .items) ≡ 88
-  sources-long = ap (λ (o : Outcome). length (o .graph .sources .items)) (a .whole) ∙ items-long (graphed s) .0
+  sources-long = ap (λ (o : Outcome). length (o .graph .sources .items)) (a .whole) ∙ items-long (graphed w s) .0
 
   pub sinks-long : length (r .graph .sinks .items) ≡ 88
-  sinks-long = ap (λ (o : Outcome). length (o .graph .sinks .items)) (a .whole) ∙ items-long (graphed s) .1
+  sinks-long = ap (λ (o : Outcome). length (o .graph .sinks .items)) (a .whole) ∙ items-long (graphed w s) .1

@@ -5,230 +5,140 @@ use native.Mathlib.Omega.{arith}
 use mathlib.Core.Path.{_≡_, refl, ap, sym, _∙_, subst}
 use mathlib.Core.Bool.{Bool, true, false, cond}
 use mathlib.Core.Option.{Option, none, some}
+use mathlib.Core.Logic.{inl, inr}
 use mathlib.Core.List.{List, [], _∷_, _++_, map}
 use lib.Dec.{leb}
-use lib.ListN.{length, getD, set, replicate, length-map, length-append, List·getD-map, List·getD-append}
-use lib.Seq.{getD-append-add}
+use lib.ListN.{length, getD, replicate, length-map, length-append}
 use borrow.Author.Tests.{leb-true}
-use Rattle.laws.specs.Lists.{All, one, flat, padded}
+use Rattle.laws.specs.Lists.{All, flat, padded}
 use Rattle.laws.proofs.Lists.{all-map, all-join, all-flat}
-use Rattle.laws.proofs.Tests.{pick}
 use Rattle.chart.specs.declared.Answer.{Answer}
 use Rattle.chart.specs.declared.Answer.the-variants.{Ready, Refused}
-use Rattle.chart.specs.Chart.{Part, End, Board, endsOf, Reading, ready as accepted, refusal as refused, chart}
+use Rattle.chart.specs.declared.Setting.{Setting}
+use Rattle.chart.specs.declared.Setting.the-variants.{Strict}
+use Rattle.chart.specs.Chart.{Part, Board, Reading, ready as accepted, refusal as refused, chart}
 use Rattle.chart.specs.Chart.{Node as GivenNode}
 use Rattle.chart.specs.Read.{numbersOf}
-use Rattle.chart.specs.Accepted.{Aimed as AimedEnd, Formed, Accepted}
+use Rattle.chart.specs.Accepted.{Accepted}
 use Rattle.chart.proofs.Accepts.{accepted as accepts}
 use Rattle.graph.specs.declared.Item.{Item}
 use Rattle.graph.specs.declared.Tables.{Tables}
 use Rattle.graph.specs.declared.Outcome.{Outcome}
-use Rattle.graph.specs.Graph.{Line, given, Edge, Node, Graph, noText, noEdge, bare, unmarked, givenNode, givenGraph, nodeAt, degree, leadsTo, hasMarked, withSources, withSinks}
-use Rattle.graph.specs.Completion.{gainSource, marked, gainSink, complete}
-use Rattle.graph.specs.Cutting.{Walk, turned, pointed, firstNode, secondNode, cutGraph, cutting}
+use Rattle.graph.specs.Graph.{Line, given, Edge, Node, Graph, bare, givenNode, givenGraph, nodeAt, degree}
+use Rattle.graph.specs.Completion.{complete}
+use Rattle.graph.specs.Joining.{leadsOf, uncut}
+use Rattle.graph.specs.Cutting.{Walk, cutting}
 use Rattle.graph.specs.Graphed.{Dag, dagOf, ready, refusal, boxed, drawn, graphed}
 use Rattle.graph.specs.code.Tables.{itemsOf, Linked}
-use Rattle.graph.specs.Laws.{Aimed, SinkAt, Names, Marked, Unmarked, ends, Named, Laws, Walks}
+use Rattle.graph.specs.Laws.{Aimed, Names, Marked, Unmarked, ends, Named, Laws, Walks}
 use Rattle.graph.specs.Completed.{CompletedLaws}
 use Rattle.graph.specs.Outcome.{heldMark, itemOf, sourcesFrom, sinksFrom, textsFrom, nameOf, namesOf, tablesOf, outcomeOf, IsGraph}
-use Rattle.graph.specs.code.Graphs.{noNodes, dagIn, graphedOf, Sound, Graphs, IsAnswer}
-use Rattle.graph.proofs.Keeps.{cutting-keeps}
-use Rattle.graph.proofs.Completes.{SourceAt, complete-holds}
-use Rattle.graph.proofs.LineLaws.{linesIn, Lined, givenLines, completed-length, given-lines, completed-lined, board-lined}
-use Rattle.graph.proofs.AimLaws.{all-set, all-at, all-in, cutting-aims, cutting-count}
-use Rattle.graph.proofs.MarkLaws.{Good, complete-good, cutting-marks}
+use Rattle.graph.specs.code.Graphs.{Name, noNodes, dagIn, graphedOf, Sound, Graphs, IsAnswer}
+use Rattle.graph.proofs.LineLaws.{linesIn, complete-lines, givenLines, completed-length}
+use Rattle.graph.proofs.AimLaws.{cutting-aims, cutting-count}
+use Rattle.graph.proofs.MarkLaws.{cutting-marks}
 use Rattle.graph.proofs.MutualLaws.{complete-mutual}
 use Rattle.graph.proofs.TextLaws.{complete-texts, cutting-texts}
-use Rattle.graph.proofs.RoomLaws.{few-sources, few-sinks, cutting-ends}
+use Rattle.graph.proofs.RoomLaws.{cutting-ends}
+use Rattle.graph.proofs.JoinLaws.{OffIn}
 use Rattle.graph.proofs.DepthLaws.{reached-enough, cutting-enough}
 use Rattle.graph.proofs.Orders.{table-back}
-use Rattle.graph.proofs.Begins.{few-lines}
-
--- ---- no sink has a mark
-abbrev Plain : Edge → Type 0
-Plain e = e .mark ≡ none
-
-abbrev PlainSinks : Node → Type 0
-PlainSinks x = All Plain (x .sinks)
-
-plain-at : (g : Graph) (p : ℕ) → Unmarked g → All Plain (nodeAt g p .sinks)
-plain-at g p a = all-at PlainSinks g p bare tt a
-
-plain-source : (n : ℕ) (g : Graph) (p i q : ℕ) → p < n → SinkAt g p i q → Unmarked g → Unmarked (gainSource g p i q)
-plain-source n g p i q l s a = pick Unmarked (hasMarked (nodeAt g q .sources) p i) g _ a (all-set PlainSinks g q _ (plain-at g q a) a)
-
-plain-sink : (n : ℕ) (g : Graph) (p j : ℕ) (e : Edge) → p < n → SourceAt g p j e → Unmarked g → Unmarked (gainSink g p j e)
-plain-sink n g p j e l s a =
-    let es : List Edge = nodeAt g (e .to) .sinks in
-    let new : List Edge = one (record { to = p; mark = none; text = noText }) in
-    let h : Graph = withSinks g (e .to) (es ++ new) in
-    let b : Unmarked h = all-set PlainSinks g (e .to) _ (all-join Plain es new (plain-at g (e .to) a) (refl, tt)) a in
-    pick Unmarked (leadsTo es p) g (withSources h p (set (nodeAt h p .sources) j (marked (length es) e))) a (all-set PlainSinks h p _ (plain-at h p b) b)
-
-plain-cut : (g : Graph) (c s : ℕ) → s < degree g c → Unmarked g → Unmarked (cutGraph g c s (getD (nodeAt g c .sinks) s noEdge))
-plain-cut g c s l a =
-    let e : Edge = getD (nodeAt g c .sinks) s noEdge in
-    let fs : List Edge = set (nodeAt g c .sinks) s (pointed (length g) e) in
-    let g₁ : Graph = withSinks g c fs in
-    let g₂ : Graph = withSources g₁ (e .to) (map (turned c (suc (length g))) (nodeAt g₁ (e .to) .sources)) in
-    let a₁ : Unmarked g₁ = all-set PlainSinks g c _ (all-set Plain (nodeAt g c .sinks) s (pointed (length g) e) (all-in Plain (nodeAt g c .sinks) s noEdge l (plain-at g c a)) (plain-at g c a)) a in
-    let a₂ : Unmarked g₂ = all-set PlainSinks g₁ (e .to) _ (plain-at g₁ (e .to) a₁) a₁ in
-    all-join PlainSinks g₂ (firstNode c s (e .to) ∷ secondNode (e .to) ∷ []) a₂ (tt, ((refl, tt), tt))
-
-plain-completed : (g : Graph) → Unmarked g → Unmarked (complete g)
-plain-completed g a = complete-holds (length g) Unmarked (plain-source (length g)) (plain-sink (length g)) g refl a
-
-plain-whole : (g : Graph) → Unmarked g → Unmarked (cutting g .graph)
-plain-whole g a = cutting-keeps (length g) (λ w. Unmarked (w .graph)) (λ w c x h. h) (λ w c s hc hs hq lo h. plain-cut (w .graph) c s hs h) g refl a .keeps
-
--- ---- the given graph
-ends-plain : (es : List End) → All Plain (map unmarked es)
-ends-plain [] = tt
-ends-plain (e ∷ es) = (refl, ends-plain es)
-
-given-plain : (ps : Board) → Unmarked (givenGraph ps)
-given-plain [] = tt
-given-plain (p ∷ ps) = (ends-plain (p .sinks), given-plain ps)
-
-ends-aimed : (s : List ℕ) (n : ℕ) (es : List End) → All (AimedEnd s n) es → All (λ (e : Edge). e .to < n) (map unmarked es)
-ends-aimed s n [] a = tt
-ends-aimed s n (e ∷ es) a = (a .0 .target, ends-aimed s n es (a .1))
-
-pub given-aimed : (s : List ℕ) (n : ℕ) (ps : Board) → All (Formed s n) ps → Aimed n (givenGraph ps)
-given-aimed s n [] a = tt
-given-aimed s n (p ∷ ps) a = (record { sources = ends-aimed s n (p .sources) (a .0 .sources); sinks = ends-aimed s n (p .sinks) (a .0 .sinks) }, given-aimed s n ps (a .1))
-
-unnamed : (g : Graph) (p : ℕ) (es : List Edge) → All Plain es → All (Names g p) es
-unnamed g p es a = all-map (λ e z i m. let y : _≡_ {A = ℕ} 0 1 = apart i (sym z ∙ m) in absurd (omega arith)) es a
-  where
-    apart : (i : ℕ) → _≡_ {A = Option ℕ} none (some i) → _≡_ {A = ℕ} 0 1
-    apart i e = cc
-
-sources-plain : (ps : Board) → All (λ (x : Node). All Plain (x .sources)) (givenGraph ps)
-sources-plain [] = tt
-sources-plain (p ∷ ps) = (ends-plain (p .sources), sources-plain ps)
-
-pub given-marks : (ps : Board) → Marked (givenGraph ps)
-given-marks ps p = unnamed (givenGraph ps) p (nodeAt (givenGraph ps) p .sources) (all-at (λ (x : Node). All Plain (x .sources)) (givenGraph ps) p bare tt (sources-plain ps))
-
-pub given-ends : (ps : Board) → ends (λ (x : Node). x .sources) (givenGraph ps) + ends (λ (x : Node). x .sinks) (givenGraph ps) ≡ endsOf ps
-given-ends [] = refl
-given-ends (p ∷ ps) = omega (arith, given-ends ps, length-map (p .sources) unmarked, length-map (p .sinks) unmarked)
-
--- ---- lines by number
-lines-at : (g : Graph) (k : ℕ) → nodeAt g k .lines ≡ getD (linesIn g) k []
-lines-at g k = sym (List·getD-map (λ (x : Node). x .lines) g k bare)
-
-module _ (ps : Board) (g : Graph) (l : Lined (length ps) (givenLines ps) g) where
-  abbrev ls : List (List Line)
-  ls = givenLines ps
-
-  size : length ls ≡ length ps
-  size = length-map ps (λ (p : GivenNode). map given (p .lines))
-
-  pub lines-kept : (k : ℕ) → k < length ps → nodeAt g k .lines ≡ nodeAt (givenGraph ps) k .lines
-  lines-kept k h =
-      lines-at g k ∙ ap (λ (m : List (List Line)). getD m k []) (l .lines) ∙ List·getD-append ls (l .rest) [] k (omega (arith, size))
-      ∙ ap (λ (m : List (List Line)). getD m k []) (sym (given-lines ps)) ∙ sym (lines-at (givenGraph ps) k)
-
-  pub lines-new : (k : ℕ) → length ps ≤ k → k < length g → Named (length ps) (nodeAt g k .lines)
-  lines-new k h m =
-      let z : length ls + (k - length ps) ≡ k = omega (arith, size) in
-      let long : length g ≡ length ls + length (l .rest) = sym (length-map g (λ (x : Node). x .lines)) ∙ ap (λ (y : List (List Line)). length y) (l .lines) ∙ length-append ls (l .rest) in
-      let e : nodeAt g k .lines ≡ getD (l .rest) (k - length ps) [] =
-      lines-at g k ∙ ap (λ (y : List (List Line)). getD y k []) (l .lines) ∙ ap (λ (j : ℕ). getD (ls ++ l .rest) j []) (sym z) ∙ getD-append-add ls (l .rest) (k - length ps) [] in
-      rw e (all-in (Named (length ps)) (l .rest) (k - length ps) [] (omega (arith, size, long)) (l .named))
+use Rattle.graph.proofs.Uncut.{Plain, given-aimed, lines-at, uncut-long, uncut-aims, uncut-marks, uncut-plain, uncut-none, uncut-sources, uncut-sinks, uncut-texts, uncut-offs-in, lines-off, uncut-boxes, uncut-own-sinks, uncut-own-sources, offs, cut-kept, cut-lined, cut-rest, cut-plain, lines-kept, lines-new}
+use Rattle.graph.proofs.NoLeads.{none-aimed}
+use Rattle.graph.proofs.Begins.{cut-lines, few-lines}
 
 -- ---- the laws of the graph of an accepted board
 boxed-ready : (w : Walk) (d : Dag) → (b : Bool) → leb (length (w .graph)) 48 ≡ b → cond b (ready (dagOf w)) (refusal 13 0) ≡ ready d → (d ≡ dagOf w) × (length (w .graph) ≤ 48)
 boxed-ready w d true t e = (cc, leb-true (length (w .graph)) 48 t)
 boxed-ready w d false t e = let z : _≡_ {A = ℕ} 0 1 = cc in absurd (omega arith)
 
-module _ (s : List ℕ) (ps : Board) (r : chart s ≡ accepted ps) where
-  abbrev a : Accepted s ps
-  a = accepts s ps r
-
-  abbrev g₀ : Graph
-  g₀ = givenGraph ps
+module _ (v : Setting) (s : List ℕ) (ps : Board) (r : chart v s ≡ accepted ps) (d : Dag) (e : boxed (cutting (uncut ps)) ≡ ready d) where
+  abbrev a : Accepted v s ps
+  a = accepts v s ps r
 
   abbrev g : Graph
-  g = complete g₀
+  g = uncut ps
 
-  long : length g ≡ length ps
-  long = completed-length ps
+  abbrev w : Walk
+  w = cutting g
 
-  given-good : Good (length ps) g₀
-  given-good = record { long = length-map ps givenNode; aimed = given-aimed s (length ps) ps (a .formed); marks = given-marks ps }
+  abbrev is : (d ≡ dagOf w) × (length (w .graph) ≤ 48)
+  is = boxed-ready w d (leb (length (w .graph)) 48) refl e
 
-  good : Good (length ps) g
-  good = complete-good (length ps) g₀ given-good
+  gathered : Laws v s (dagOf w)
+  gathered =
+      record {
+        board = ps;
+        read = r;
+        walk = refl;
+        given = a .count;
+        nodes = omega (arith, cutting-count g, uncut-long ps);
+        strict = λ z. none-aimed (length ps) (givenGraph ps) (given-aimed v s (length ps) (length ps) (λ e h. h .target z) ps (a .formed));
+        boxes = is .1;
+        aimed = cutting-aims g (uncut-aims ps);
+        sources = omega (arith, uncut-sources ps 64 (a .ends), cutting-ends g .0, cutting-count g, is .1);
+        sinks = omega (arith, uncut-sinks ps 64 (a .ends), cutting-ends g .1, cutting-count g, is .1);
+        marks = cutting-marks g (uncut-marks ps);
+        unmarked = cut-plain ps;
+        lines = lines-kept ps;
+        texts = cutting-texts (givenGraph ps) g (length ps) (omega (arith, uncut-long ps)) (uncut-texts ps);
+        sinks-joined = uncut-own-sinks ps;
+        sources-joined = uncut-own-sources ps;
+        joined = uncut-boxes ps;
+        kept = cut-kept ps;
+        inserted = lines-new ps;
+      }
 
-  first : Good (length g₀) g₀
-  first = rw (length-map ps givenNode) given-good
+  pub board-laws : Laws v s d
+  board-laws = subst (Laws v s) (sym (is .0)) gathered
 
-  given-few : ends (λ (x : Node). x .sources) g₀ + ends (λ (x : Node). x .sinks) g₀ ≤ 64
-  given-few = omega (arith, given-ends ps, a .ends)
+-- ---- the laws of the completed graph of a chart that strict accepts: no lead, so nothing is joined
+module _ (s : List ℕ) (ps : Board) (r : chart Strict s ≡ accepted ps) where
+  abbrev given-of : Graph
+  given-of = givenGraph ps
 
-  -- completed, and not cut
+  abbrev whole : Graph
+  whole = complete given-of
+
+  accepted-of : Accepted Strict s ps
+  accepted-of = accepts Strict s ps r
+
+  board-aims : Aimed (length ps) given-of
+  board-aims = given-aimed Strict s (length ps) (length ps) (λ e h. h .target refl) ps (accepted-of .formed)
+
+  pub board-none : leadsOf ps ≡ 0
+  board-none = none-aimed (length ps) given-of board-aims
+
+  pub strict-uncut : uncut ps ≡ whole
+  strict-uncut = uncut-none ps board-none
+
   pub completed-laws : CompletedLaws s (givenGraph ps) (complete (givenGraph ps))
   completed-laws =
       record {
-        nodes = long ∙ a .count;
-        few = omega (arith, long, a .nodes);
-        aimed = rw long (good .aimed);
-        both = complete-mutual g₀ (first .aimed);
-        sources = few-sources g₀ 64 first given-few;
-        sinks = few-sinks g₀ 64 first given-few;
-        marks = good .marks;
-        unmarked = plain-completed g₀ (given-plain ps);
-        lines = λ k h. lines-kept ps g (completed-lined ps) k (omega (arith, long));
-        texts = λ k h. complete-texts g₀ k;
+        nodes = completed-length ps ∙ accepted-of .count;
+        few = omega (arith, completed-length ps, accepted-of .nodes);
+        aimed = subst (λ (g : Graph). Aimed (length g) g) strict-uncut (uncut-aims ps);
+        both = complete-mutual given-of (subst (λ (k : ℕ). Aimed k given-of) (sym (length-map ps givenNode)) board-aims);
+        sources = subst (λ (g : Graph). ends (λ (x : Node). x .sources) g ≤ 64) strict-uncut (uncut-sources ps 64 (accepted-of .ends));
+        sinks = subst (λ (g : Graph). ends (λ (x : Node). x .sinks) g ≤ 64) strict-uncut (uncut-sinks ps 64 (accepted-of .ends));
+        marks = subst Marked strict-uncut (uncut-marks ps);
+        unmarked = subst Unmarked strict-uncut (uncut-plain ps);
+        lines = λ k h. lines-at whole k ∙ ap (λ (m : List (List Line)). getD m k []) (complete-lines given-of) ∙ sym (lines-at given-of k);
+        texts = λ k h. complete-texts given-of k;
       }
-
-  module _ (d : Dag) (e : boxed (cutting (complete (givenGraph ps))) ≡ ready d) where
-    abbrev w : Walk
-    w = cutting g
-
-    abbrev is : (d ≡ dagOf w) × (length (w .graph) ≤ 48)
-    is = boxed-ready w d (leb (length (w .graph)) 48) refl e
-
-    gathered : Laws s (dagOf w)
-    gathered =
-        record {
-          board = ps;
-          read = r;
-          walk = refl;
-          given = a .count;
-          nodes = omega (arith, cutting-count g, long);
-          boxes = is .1;
-          aimed = cutting-aims g (completed-laws .aimed);
-          sources = omega (arith, completed-laws .sources, cutting-ends g .0, cutting-count g, is .1);
-          sinks = omega (arith, completed-laws .sinks, cutting-ends g .1, cutting-count g, is .1);
-          marks = cutting-marks g (good .marks);
-          unmarked = plain-whole g (completed-laws .unmarked);
-          lines = lines-kept ps (w .graph) (board-lined ps);
-          texts = λ i l. cutting-texts g₀ g (complete-texts g₀) i (rw long l);
-          inserted = lines-new ps (w .graph) (board-lined ps);
-        }
-
-    pub board-laws : Laws s d
-    board-laws = subst (Laws s) (sym (is .0)) gathered
 
 -- the walks of a board: no depth is used up
 pub board-walks : (ps : Board) → Walks ps
-board-walks ps =
-    let g : Graph = complete (givenGraph ps) in
-    let long : length g ≡ length ps = completed-length ps in
-    record { roots = λ more. rw (← long) (reached-enough g more); starts = λ more. rw (← long) (cutting-enough g more) }
+board-walks ps = record { roots = reached-enough (uncut ps); starts = cutting-enough (uncut ps) }
 
-pub laws-drawn : (s : List ℕ) (d : Dag) → (c : Reading) → chart s ≡ c → drawn c ≡ ready d → Laws s d
-laws-drawn s d (accepted ps) r e = board-laws s ps r d e
-laws-drawn s d (refused a b) r e = let z : _≡_ {A = ℕ} 0 1 = cc in absurd (omega arith)
+pub laws-drawn : (w : Setting) (s : List ℕ) (d : Dag) → (c : Reading) → chart w s ≡ c → drawn c ≡ ready d → Laws w s d
+laws-drawn w s d (accepted ps) r e = board-laws w s ps r d e
+laws-drawn w s d (refused a b) r e = let z : _≡_ {A = ℕ} 0 1 = cc in absurd (omega arith)
 
 -- the laws of every graph that is drawn
-pub graph-laws : (s : List ℕ) (d : Dag) → graphed s ≡ ready d → Laws s d
+pub graph-laws : (w : Setting) (s : List ℕ) (d : Dag) → graphed w s ≡ ready d → Laws w s d
 unfolding graphed
-graph-laws s d e = laws-drawn s d (chart s) refl e
+graph-laws w s d e = laws-drawn w s d (chart w s) refl e
 
 -- ---- the tables of the graph
 pub flat-long : (list : Node → List Edge) (p : ℕ) (g : Graph) → length (flat itemOf list p g) ≡ ends list g
@@ -261,27 +171,47 @@ all-padded P zero z xs h a = tt
 all-padded P (suc m) z [] h a = (h, all-padded P m z [] h tt)
 all-padded P (suc m) z (x ∷ xs) h a = (a .0, all-padded P m z xs h (a .1))
 
-abbrev Name : ℕ → Type 0
-Name q = (q ≡ 255 → ⊥) → q < 32
-
-pub given-name : (ts : List Part) → nameOf (map given ts) ≡ 255
+pub given-name : (ts : List Part) → nameOf (map given ts) ≡ 512
 given-name [] = refl
 given-name (t ∷ ts) = given-name ts
 
-names-from : (n : ℕ) → n ≤ 32 → (ps : Board) (rest : List (List Line)) → All (Named n) rest → All Name (map nameOf (givenLines ps ++ rest))
-names-from n l [] [] a = tt
-names-from n l [] (k ∷ rest) a = (λ o. rw (a .0 .line) (omega (arith, a .0 .inside)), names-from n l [] rest (a .1))
-names-from n l (p ∷ ps) rest a = (λ o. absurd (o (given-name (p .lines))), names-from n l ps rest a)
+given-names : (ps : Board) → All (λ (l : List Line). Name (nameOf l)) (givenLines ps)
+given-names [] = tt
+given-names (p ∷ ps) = (λ o. absurd (o (given-name (p .lines))), given-names ps)
+
+off-name : (n : ℕ) (l : List Line) → OffIn n 256 l → Name (nameOf l)
+off-name n l o z = inr (rw (o .line) (omega (arith, o .given, o .past), omega (arith, o .small)))
+
+number-name : (n : ℕ) → n ≤ 32 → (l : List Line) → Named n l → Name (nameOf l)
+number-name n h l o z = inl (rw (o .line) (omega (arith, o .inside)))
+
+all-names : (ls : List (List Line)) → All (λ (l : List Line). Name (nameOf l)) ls → All Name (map nameOf ls)
+all-names [] a = tt
+all-names (l ∷ ls) a = (a .0, all-names ls (a .1))
+
+-- the chart is made of bytes
+abbrev pub Bytes : List ℕ → Type 0
+Bytes s = (i : ℕ) → getD s i 0 < 256
+
+-- a bound of the given targets; a target is one byte of the chart
+given-bytes : (w : Setting) (s : List ℕ) → Bytes s → (ps : Board) → chart w s ≡ accepted ps → Aimed 256 (givenGraph ps)
+given-bytes w s b ps r = given-aimed w s (length ps) 256 (λ e h. omega (arith, h .fits .byte, b (e .text .at - 2))) ps (accepts w s ps r .formed)
+
+-- a lead's box shows a target that is 1 to 255
+pub box-byte : (w : Setting) (s : List ℕ) → Bytes s → (d : Dag) (l : Laws w s d) (k : ℕ) → length (l .board) ≤ k → k < length (l .board) + leadsOf (l .board) → OffIn (length (l .board)) 256 (nodeAt (d .graph) k .lines)
+box-byte w s b d l k h i =
+    let ps : Board = l .board in
+    rw (l .kept k h i) (lines-off ps 256 (omega (arith, accepts w s ps (l .read) .nodes)) (given-bytes w s b ps (l .read)) k h i)
 
 map-names : (g : Graph) → namesOf g ≡ map nameOf (linesIn g)
 map-names [] = refl
 map-names (x ∷ g) = cc (map-names g)
 
-module _ (s : List ℕ) (t : Tables) (b : Linked t) (e : t ≡ tablesOf (dagIn t)) where
+module _ (w : Setting) (s : List ℕ) (bytes : Bytes s) (t : Tables) (b : Linked t) (e : t ≡ tablesOf (dagIn t)) where
   abbrev d : Dag
   d = dagIn t
 
-  module _ (l : Laws s d) where
+  module _ (l : Laws w s d) where
     abbrev u : Graph
     u = d .graph
 
@@ -296,15 +226,24 @@ module _ (s : List ℕ) (t : Tables) (b : Linked t) (e : t ≡ tablesOf (dagIn t
 
     few : t .lines .count ≤ 128
     few =
-        let z : length (textsFrom 0 u) ≡ length (textsFrom 0 (cutting (complete (givenGraph (l .board))) .graph)) = ap (λ (c : Dag). length (textsFrom 0 (c .graph))) (l .walk) in
-        omega (arith, ap (λ (y : Tables). y .lines .count) e, z, few-lines s (l .board) (l .read) _ (board-lined (l .board)))
+        let z : length (textsFrom 0 u) ≡ length (textsFrom 0 (cutting (uncut (l .board)) .graph)) = ap (λ (c : Dag). length (textsFrom 0 (c .graph))) (l .walk) in
+        omega (arith, ap (λ (y : Tables). y .lines .count) e, z, few-lines w s (l .board) (l .read) _ (cut-lines (l .board)))
 
     names : All Name (t .names)
     names =
-        let m : Lined (length (l .board)) (givenLines (l .board)) (cutting (complete (givenGraph (l .board))) .graph) = board-lined (l .board) in
-        let z : namesOf u ≡ map nameOf (givenLines (l .board) ++ m .rest) = ap (λ (c : Dag). namesOf (c .graph)) (l .walk) ∙ map-names (cutting (complete (givenGraph (l .board))) .graph) ∙ ap (map nameOf) (m .lines) in
+        let ps : Board = l .board in
+        let a : Accepted w s ps = accepts w s ps (l .read) in
+        let g : Graph = cutting (uncut ps) .graph in
+        let us : List (List Line) = givenLines ps in
+        let z : namesOf u ≡ map nameOf (us ++ (offs ps ++ cut-lined ps .rest)) = ap (λ (c : Dag). namesOf (c .graph)) (l .walk) ∙ map-names g ∙ ap (map nameOf) (cut-rest ps) in
+        let P : List Line → Type 0 = λ m. Name (nameOf m) in
+        let all : All P (us ++ (offs ps ++ cut-lined ps .rest)) =
+        all-join P us (offs ps ++ cut-lined ps .rest) (given-names ps)
+        (all-join P (offs ps) (cut-lined ps .rest)
+        (all-map (off-name (length ps)) (offs ps) (uncut-offs-in ps 256 (omega (arith, a .nodes)) (given-bytes w s bytes ps (l .read))))
+        (all-map (number-name (length ps) (a .nodes)) (cut-lined ps .rest) (cut-lined ps .named))) in
         rw (ap (λ (y : Tables). y .names) e)
-        (all-padded Name 48 255 (namesOf u) (λ o. absurd (o refl)) (rw z (names-from (length (l .board)) (accepts s (l .board) (l .read) .nodes) (l .board) (m .rest) (m .named))))
+        (all-padded Name 48 512 (namesOf u) (λ o. absurd (o refl)) (rw z (all-names (us ++ (offs ps ++ cut-lined ps .rest)) all)))
 
     pub tables-sound : Sound t
     tables-sound =
@@ -321,37 +260,38 @@ all-repeat : {A : Type 0} (P : A → Type 0) (n : ℕ) (x : A) → P x → All P
 all-repeat P zero x h = tt
 all-repeat P (suc n) x h = (h, all-repeat P n x h)
 
-module _ (s : List ℕ) (r : Outcome) (a : IsAnswer (graphed s) r) where
-  drawn-is : r .answer ≡ Ready → graphed s ≡ ready (dagIn (r .graph))
+module _ (w : Setting) (s : List ℕ) (bytes : Bytes s) (r : Outcome) (a : IsAnswer (graphed w s) r) where
+  drawn-is : r .answer ≡ Ready → graphed w s ≡ ready (dagIn (r .graph))
   drawn-is e = sym (a .graphs) ∙ ap (λ x. graphedOf (record { answer = x; graph = r .graph })) e
 
   tables-are : r .answer ≡ Ready → r .graph ≡ tablesOf (dagIn (r .graph))
   tables-are e = ap (λ (o : Outcome). o .graph) (a .whole ∙ ap outcomeOf (drawn-is e))
 
-  laws-of : r .answer ≡ Ready → Laws s (dagIn (r .graph))
-  laws-of e = graph-laws s (dagIn (r .graph)) (drawn-is e)
+  laws-of : r .answer ≡ Ready → Laws w s (dagIn (r .graph))
+  laws-of e = graph-laws w s (dagIn (r .graph)) (drawn-is e)
 
   sound-by : (x : Answer) → r .answer ≡ x → Sound (r .graph)
-  sound-by Ready e = tables-sound s (r .graph) (a .linked) (tables-are e) (laws-of e)
+  sound-by Ready e = tables-sound w s bytes (r .graph) (a .linked) (tables-are e) (laws-of e)
   sound-by (Refused i j) e =
-      let z : graphed s ≡ refusal i j = sym (a .graphs) ∙ ap (λ x. graphedOf (record { answer = x; graph = r .graph })) e in
+      let z : graphed w s ≡ refusal i j = sym (a .graphs) ∙ ap (λ x. graphedOf (record { answer = x; graph = r .graph })) e in
       let y : r .graph ≡ noNodes = ap (λ (o : Outcome). o .graph) (a .whole ∙ ap outcomeOf z) in
       record {
         linked = a .linked;
         line-room = rw y (omega arith);
         source-marks = rw y tt;
         sink-marks = rw y tt;
-        names = rw y (all-repeat Name 48 255 (λ o. absurd (o refl)));
+        names = rw y (all-repeat Name 48 512 (λ o. absurd (o refl)));
       }
 
-  pub is-graphs : Graphs s r
+  pub is-graphs : Graphs w s r
   is-graphs = record { graphs = a .graphs; whole = a .whole; sound = sound-by (r .answer) refl; laws = laws-of }
 
-  pub is-graph : IsGraph s r
+  pub is-graph : IsGraph w s r
   is-graph =
       record {
         whole = a .whole;
         refused = λ i j e. ap (λ (o : Outcome). numbersOf (o .answer)) (a .whole ∙ ap outcomeOf e);
-        laws = graph-laws s;
+        laws = graph-laws w s;
         walks = λ ps e. board-walks ps;
+        bytes = bytes;
       }

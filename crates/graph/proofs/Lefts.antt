@@ -14,13 +14,13 @@ use Rattle.laws.specs.Lists.{one}
 use Rattle.graph.specs.declared.Item.{Item}
 use Rattle.graph.specs.declared.Table.{Table}
 use Rattle.graph.specs.declared.Tables.{Tables}
-use Rattle.graph.specs.Graph.{Edge, hasMarked, leadsTo}
-use Rattle.graph.specs.Completion.{completeSinks}
-use Rattle.graph.specs.code.Tables.{owned, edgeOf, sourceOf, gained, graphFrom, graphOf, linesOf, itemsOf, Aimed, Below, Sinked, Paired, bares, Fit, SinksDone}
+use Rattle.graph.specs.Graph.{Edge, Graph, hasMarked, leadsTo}
+use Rattle.graph.specs.Completion.{gainSource, completeSinks}
+use Rattle.graph.specs.code.Tables.{owned, edgeOf, sourceOf, gained, gainedIn, graphFrom, graphOf, linesOf, itemsOf, Below, Sinked, Paired, bares, Fit, SinksDone}
 use Rattle.graph.specs.Outcome.{noItem}
 use Rattle.graph.proofs.Lists.{node-graph, owned-end, owned-other, owned-own, table-size, table-at}
 use Rattle.graph.proofs.Gains.{gain-graph}
-use Rattle.graph.proofs.Cuts.{aimed-at, aimed-one, below-one, counted-own, counted-other}
+use Rattle.graph.proofs.Cuts.{length-graph, below-one, counted-own, counted-other}
 use Rattle.graph.proofs.Pairs.{leads-at, source-sinked, source-paired, source-bares}
 
 -- Before record k, with i sinks of p gone through and the table s of sources: what is left to do gives the whole.
@@ -29,17 +29,12 @@ pub record Left (g : ℕ) (t : Tables) (p : ℕ) (s : Table) (i k : ℕ) : Type 
   pub numbered : i ≤ k
   pub number : length (owned p (take k (itemsOf (t .sinks)))) ≡ i
   pub room : s .count + length (owned p (drop k (take g (itemsOf (t .sinks))))) ≤ t .sources .count + length (owned p (take g (itemsOf (t .sinks))))
-  pub aims : Aimed (t .n) (itemsOf s)
   pub owners : Below (t .n) (itemsOf s)
   pub sinked : Sinked (itemsOf (t .sinks)) (itemsOf s)
   pub paired : Paired g (itemsOf s) (itemsOf (t .sinks))
   pub same : bares (itemsOf s) ≡ bares (itemsOf (t .sources))
   pub rest : completeSinks (graphFrom (t .n) (linesOf t) (itemsOf s) (itemsOf (t .sinks))) p i (owned p (drop k (itemsOf (t .sinks))))
       ≡ completeSinks (graphOf t) p 0 (owned p (itemsOf (t .sinks)))
-
-aimed-cond : (n : ℕ) (xs : List Item) (x : Item) → x .to < n → Aimed n xs → (b : Bool) → Aimed n (cond b xs (xs ++ one x))
-aimed-cond n xs x h a true = a
-aimed-cond n xs x h a false = aimed-one n xs x h a
 
 below-cond : (n : ℕ) (xs : List Item) (x : Item) → x .owner < n → Below n xs → (b : Bool) → Below n (cond b xs (xs ++ one x))
 below-cond n xs x h a true = a
@@ -93,8 +88,6 @@ module _ (g : ℕ) (t : Tables) (b : Fit g t) (long : length (t .sinks .items) �
                     sink-room = b .linked .sink-room;
                     source-owners = l .owners;
                     sink-owners = b .linked .sink-owners;
-                    source-aims = l .aims;
-                    sink-aims = b .linked .sink-aims;
                     line-owners = b .linked .line-owners;
                   };
               sinked = l .sinked;
@@ -125,7 +118,6 @@ module _ (g : ℕ) (t : Tables) (b : Fit g t) (long : length (t .sinks .items) �
           numbered = omega (arith, l .numbered);
           number = counted-other ys p k inside o′ ∙ l .number;
           room = rw (add-one k) (omega (arith, l .room, rest-other g p k ys (b .given) o′ (ltb k g) refl));
-          aims = l .aims;
           owners = l .owners;
           sinked = l .sinked;
           paired = l .paired;
@@ -144,27 +136,48 @@ module _ (g : ℕ) (t : Tables) (b : Fit g t) (long : length (t .sinks .items) �
           (subst (λ (n : ℕ). hasMarked (owned (y .to) (itemsOf s)) p n ≡ true) (l .number)
           (subst (λ (n : ℕ). hasMarked (owned (y .to) (itemsOf s)) n (length (owned n (take k ys))) ≡ true) own (l .paired k a inside)))
 
-      to-in : e .to < t .n
-      to-in = subst (λ (x : Item). x .to < t .n) here (aimed-at (t .n) ys k (b .linked .sink-aims) inside)
-
       leads : leadsTo (owned p ys) (e .to) ≡ true
       leads = leads-at ys k p (e .to) inside own (ap (λ (x : Item). x .to) here)
 
-      pub left-own : (r : Table) → itemsOf r ≡ gained (itemsOf s) p i (e .to) → r .count ≤ s .count + 1 → (hasMarked (owned (e .to) (itemsOf s)) p i ≡ true → r .count ≡ s .count) → Left g t p r (i + 1) (k + 1)
-      left-own r f c c′ =
-          let own′ : owned p (drop k ys) ≡ edgeOf e ∷ owned p (drop (suc k) ys) = rw (owned-own p k ys inside own, here) in
+      abbrev now : Graph
+      now = graphFrom (t .n) (linesOf t) (itemsOf s) ys
+
+      rest-now : completeSinks (cond (ltb (e .to) (length now)) (gainSource now p i (e .to)) now) p (suc i) (owned p (drop (suc k) ys)) ≡ completeSinks (graphOf t) p 0 (owned p ys)
+      rest-now = let own′ : owned p (drop k ys) ≡ edgeOf e ∷ owned p (drop (suc k) ys) = rw (owned-own p k ys inside own, here) in rw own′ at (l .rest)
+
+      test-now : (c : Bool) → ltb (e .to) (t .n) ≡ c → ltb (e .to) (length now) ≡ c
+      test-now c z = ap (ltb (e .to)) (length-graph (t .n) (linesOf t) (itemsOf s) ys) ∙ z
+
+      left-by : (r : Table) → (d : Bool) → ltb (e .to) (t .n) ≡ d → itemsOf r ≡ cond d (gained (itemsOf s) p i (e .to)) (itemsOf s) → r .count ≤ s .count + 1 →
+          (hasMarked (owned (e .to) (itemsOf s)) p i ≡ true → r .count ≡ s .count) → Left g t p r (i + 1) (k + 1)
+      left-by r true z f c c′ =
+          let to-in : e .to < t .n = ltb-true (e .to) (t .n) z in
           let m : Bool = hasMarked (owned (e .to) (itemsOf s)) p i in
           record {
             within = omega arith;
             numbered = omega (arith, l .numbered);
             number = counted-own ys p k inside own ∙ ap (λ (n : ℕ). n + 1) (l .number);
             room = rw (add-one k) (omega (arith, l .room, rest-more g p k ys (b .given) (s .count) (r .count) c (λ a. c′ (hit a)) own (ltb k g) refl));
-            aims = rw f (aimed-cond (t .n) (itemsOf s) (sourceOf p i (e .to)) hp (l .aims) m);
             owners = rw f (below-cond (t .n) (itemsOf s) (sourceOf p i (e .to)) to-in (l .owners) m);
             sinked = rw f (source-sinked g ys (itemsOf s) p i (e .to) leads m (l .sinked));
             paired = rw f (source-paired g ys (itemsOf s) p i (e .to) leads m (l .paired));
             same = rw f (source-bares g ys (itemsOf s) p i (e .to) leads m) ∙ l .same;
             rest =
                 rw (add-one k, add-one i, f, ← gain-graph (t .n) (linesOf t) (itemsOf s) ys p i (e .to) to-in)
-                (rw own′ at (l .rest));
+                (rw (test-now true z) at rest-now);
           }
+      left-by r false z f c c′ =
+          record {
+            within = omega arith;
+            numbered = omega (arith, l .numbered);
+            number = counted-own ys p k inside own ∙ ap (λ (n : ℕ). n + 1) (l .number);
+            room = rw (add-one k) (omega (arith, l .room, rest-more g p k ys (b .given) (s .count) (r .count) c (λ a. c′ (hit a)) own (ltb k g) refl));
+            owners = rw f (l .owners);
+            sinked = rw f (l .sinked);
+            paired = rw f (l .paired);
+            same = ap bares f ∙ l .same;
+            rest = rw (add-one k, add-one i, f) (rw (test-now false z) at rest-now);
+          }
+
+      pub left-own : (r : Table) → itemsOf r ≡ gainedIn (t .n) (itemsOf s) p i (e .to) → r .count ≤ s .count + 1 → (hasMarked (owned (e .to) (itemsOf s)) p i ≡ true → r .count ≡ s .count) → Left g t p r (i + 1) (k + 1)
+      left-own r f c c′ = left-by r (ltb (e .to) (t .n)) refl f c c′

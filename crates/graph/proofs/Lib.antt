@@ -13,13 +13,19 @@ pub mod Rounds
 pub mod Keeps
 pub mod LineLaws
 pub mod Orders
-pub mod Begins
 pub mod Completes
+pub mod Joins
+pub mod JoinLaws
+pub mod Boxes
+pub mod BoxTurns
 pub mod AimLaws
 pub mod MarkLaws
 pub mod MutualLaws
 pub mod TextLaws
 pub mod DepthLaws
+pub mod Uncut
+pub mod NoLeads
+pub mod Begins
 pub mod Gathers
 pub mod RoomLaws
 pub mod CountLaws
@@ -27,3 +33,4 @@ pub mod EndsLaws
 pub mod Tabled
 pub mod Empty
 pub mod Stages
+pub mod Settings

@@ -16,11 +16,11 @@ use Rattle.laws.proofs.Lists.{all-map, all-join, all-made}
 use Rattle.laws.proofs.Tests.{pick, pick-by}
 use Rattle.graph.specs.Graph.{Edge, Node, Graph, noText, noEdge, bare, nodeAt, degree, leadsTo, hasMarked, withSources, withSinks}
 use Rattle.graph.specs.Completion.{gainSource, marked, gainSink, complete}
-use Rattle.graph.specs.Cutting.{turned, pointed, firstNode, secondNode, cutGraph, cutting}
-use Rattle.graph.specs.Laws.{Leads, Aimed, SinkAt, Names, Marked}
+use Rattle.graph.specs.Cutting.{turned, pointed, firstNode, secondNode, cutGraph, reached, cutting}
+use Rattle.graph.specs.Laws.{SinkAt, Names, Marked}
 use Rattle.graph.proofs.Keeps.{cutting-keeps}
 use Rattle.graph.proofs.Completes.{SourceAt, sinks-at, complete-holds}
-use Rattle.graph.proofs.AimLaws.{To, all-set, all-in, node-aims, gain-sink-aims}
+use Rattle.graph.proofs.AimLaws.{all-set}
 
 -- ---- one node replaced
 pub node-set : (P : Node → Type 0) (g : Graph) (q : ℕ) (x : Node) (r : ℕ) → (r ≡ q → P x) → P (nodeAt g r) → P (nodeAt (set g q x) r)
@@ -54,7 +54,6 @@ names-moved g h f p es a = all-map (λ e n i m. f (e .to) i p (n i m)) es a
 -- ---- completion
 pub record Good (n : ℕ) (g : Graph) : Type 0 where
   pub long : length g ≡ n
-  pub aimed : Aimed n g
   pub marks : Marked g
 
 some-is : (i j : ℕ) → some i ≡ some j → i ≡ j
@@ -70,7 +69,7 @@ module _ (g : Graph) (p i q : ℕ) (s : SinkAt g p i q) (m : Marked g) where
   abbrev h : Graph
   h = withSources g q (es ++ one new)
 
-  moved : (r k x : ℕ) → SinkAt g r k x → SinkAt h r k x
+  pub moved : (r k x : ℕ) → SinkAt g r k x → SinkAt h r k x
   moved r k x = sink-moved g h r k x (sinks-at g h (map-set-same (λ (y : Node). y .sinks) g q _ bare refl) r)
 
   source-marks : Marked h
@@ -82,20 +81,12 @@ module _ (g : Graph) (p i q : ℕ) (s : SinkAt g p i q) (m : Marked g) where
       (λ k z. subst (λ (l : ℕ). SinkAt h p l r) (some-is i k z) at, tt))
       (names-moved g h moved r (nodeAt g r .sources) (m r))
 
-pub gain-source-good : (n : ℕ) (g : Graph) (p i q : ℕ) → p < n → SinkAt g p i q → Good n g → Good n (gainSource g p i q)
-gain-source-good n g p i q l s a =
+pub gain-source-good : (n : ℕ) (g : Graph) (p i q : ℕ) → p < n → q < length g → SinkAt g p i q → Good n g → Good n (gainSource g p i q)
+gain-source-good n g p i q l t s a =
     pick (Good n) (hasMarked (nodeAt g q .sources) p i) g (h g p i q s (a .marks)) a
-    (record {
-      long = length-set g q _ ∙ a .long;
-      aimed = sources-aimed;
-      marks = source-marks g p i q s (a .marks);
-    })
-  where
-    sources-aimed : Aimed n (h g p i q s (a .marks))
-    sources-aimed =
-        all-set (Leads n) g q _ (record { sources = all-join (To n) (nodeAt g q .sources) (one (record { to = p; mark = some i; text = noText })) (node-aims n g q (a .aimed) .sources) (l, tt); sinks = node-aims n g q (a .aimed) .sinks }) (a .aimed)
+    (record { long = length-set g q _ ∙ a .long; marks = source-marks g p i q s (a .marks) })
 
-module _ (n : ℕ) (g : Graph) (p j : ℕ) (e : Edge) (l : p < n) (s : SourceAt g p j e) (a : Good n g) where
+module _ (n : ℕ) (g : Graph) (p j : ℕ) (e : Edge) (l : p < n) (t : e .to < length g) (s : SourceAt g p j e) (a : Good n g) where
   abbrev q : ℕ
   q = e .to
 
@@ -114,28 +105,25 @@ module _ (n : ℕ) (g : Graph) (p j : ℕ) (e : Edge) (l : p < n) (s : SourceAt 
   abbrev pub k₂ : Graph
   k₂ = withSources h₂ p fs
 
-  pub to-in : q < n
-  to-in = subst (λ (k : ℕ). k < n) (ap (λ (x : Edge). x .to) (s .is)) (all-in (To n) (nodeAt g p .sources) j noEdge (s .inside) (node-aims n g p (a .aimed) .sources))
-
   grown : (r i x : ℕ) → SinkAt g r i x → SinkAt h₂ r i x
-  grown r i x t =
+  grown r i x k =
       let f : At i x (nodeAt h₂ r) =
       node-set (At i x) g q _ r
       (λ z.
-      let i-in : i < length es₂ = subst (λ (k : ℕ). i < degree g k) z (t .inside) in
-      (simp length-append (omega (arith, i-in)), ap (λ (y : Edge). y .to) (List·getD-append es₂ (one new₂) noEdge i i-in) ∙ subst (λ (k : ℕ). getD (nodeAt g k .sinks) i noEdge .to ≡ x) z (t .leads)))
-      (t .inside, t .leads) in
+      let i-in : i < length es₂ = subst (λ (r : ℕ). i < degree g r) z (k .inside) in
+      (simp length-append (omega (arith, i-in)), ap (λ (y : Edge). y .to) (List·getD-append es₂ (one new₂) noEdge i i-in) ∙ subst (λ (r : ℕ). getD (nodeAt g r .sinks) i noEdge .to ≡ x) z (k .leads)))
+      (k .inside, k .leads) in
       record { inside = f .0; leads = f .1 }
 
   kept : (r i x : ℕ) → SinkAt h₂ r i x → SinkAt k₂ r i x
   kept r i x = sink-moved h₂ k₂ r i x (sinks-at h₂ k₂ (map-set-same (λ (y : Node). y .sinks) h₂ p _ bare refl) r)
 
-  both : (r i x : ℕ) → SinkAt g r i x → SinkAt k₂ r i x
-  both r i x t = kept r i x (grown r i x t)
+  pub both : (r i x : ℕ) → SinkAt g r i x → SinkAt k₂ r i x
+  both r i x k = kept r i x (grown r i x k)
 
   made : SinkAt k₂ q (length es₂) p
   made =
-      let z : nodeAt h₂ q ≡ _ = node-same g q (record { sources = nodeAt g q .sources; lines = nodeAt g q .lines; sinks = es₂ ++ one new₂ }) (omega (arith, to-in, a .long)) in
+      let z : nodeAt h₂ q ≡ _ = node-same g q (record { sources = nodeAt g q .sources; lines = nodeAt g q .lines; sinks = es₂ ++ one new₂ }) t in
       kept q (length es₂) p
       (record {
         inside = rw z (simp length-append (omega arith));
@@ -156,15 +144,10 @@ module _ (n : ℕ) (g : Graph) (p j : ℕ) (e : Edge) (l : p < n) (s : SourceAt 
       (all-set (Names k₂ p) (nodeAt h₂ p .sources) j (marked (length es₂) e) (λ i m. subst (λ (k : ℕ). SinkAt k₂ q k p) (some-is (length es₂) i m) made) (olds p)))
       (olds r)
 
-pub gain-sink-good : (n : ℕ) (g : Graph) (p j : ℕ) (e : Edge) → p < n → SourceAt g p j e → Good n g → Good n (gainSink g p j e)
-gain-sink-good n g p j e l s a =
-    pick-by (Good n) (leadsTo (nodeAt g (e .to) .sinks) p) g (k₂ n g p j e l s a) (λ z. a)
-    (λ z.
-    record {
-      long = length-set (h₂ n g p j e l s a) p _ ∙ length-set g (e .to) _ ∙ a .long;
-      aimed = rw z at (gain-sink-aims n g p j e l s (a .aimed));
-      marks = sink-marks n g p j e l s a;
-    })
+pub gain-sink-good : (n : ℕ) (g : Graph) (p j : ℕ) (e : Edge) → p < n → e .to < length g → SourceAt g p j e → Good n g → Good n (gainSink g p j e)
+gain-sink-good n g p j e l t s a =
+    pick-by (Good n) (leadsTo (nodeAt g (e .to) .sinks) p) g (k₂ n g p j e l t s a) (λ z. a)
+    (λ z. record { long = length-set (h₂ n g p j e l t s a) p _ ∙ length-set g (e .to) _ ∙ a .long; marks = sink-marks n g p j e l t s a })
 
 pub complete-good : (n : ℕ) (g : Graph) → Good n g → Good n (complete g)
 complete-good n g a = complete-holds n (Good n) (gain-source-good n) (gain-sink-good n) g (a .long) a
@@ -290,5 +273,5 @@ module _ (g : Graph) (c s : ℕ) (hc : c < length g) (hs : s < degree g c) (hq :
 
 pub cutting-marks : (g : Graph) → Marked g → Marked (cutting g .graph)
 cutting-marks g m =
-    cutting-keeps (length g) (λ w. Marked (w .graph)) (λ w c x h. h)
-    (λ w c s hc hs hq lo h. cut-marks (w .graph) c s (omega arith) hs (omega arith) h) g refl m .keeps
+    cutting-keeps (length g) (reached g) (λ w. Marked (w .graph)) (λ w c x h. h)
+    (λ w c s hc hs hq lo bz fr h. cut-marks (w .graph) c s (omega arith) hs (omega arith) h) g refl refl m .keeps

@@ -5,13 +5,13 @@ use native.Mathlib.Omega.{arith}
 use native.Mathlib.Nat.{le-of-suc-le-suc, not-suc-le-zero}
 use mathlib.Core.Path.{_≡_, refl, ap, sym, _∙_, subst}
 use mathlib.Core.Logic.{_⊎_, inl, inr}
-use mathlib.Core.Bool.{Bool, true, false, _&&_, _||_, false≢true}
+use mathlib.Core.Bool.{Bool, true, false, cond, _&&_, _||_, false≢true}
 use mathlib.Core.Option.{none, some}
 use mathlib.Core.List.{List, [], _∷_, _++_, map}
-use lib.Dec.{eqb}
+use lib.Dec.{eqb, ltb}
 use lib.ListN.{length, getD, set, length-set, List·getD-eq-default}
 use lib.Seq.{map-set-same}
-use borrow.Author.Tests.{eqb-true, eq-eqb}
+use borrow.Author.Tests.{eqb-true, eq-eqb, lt-ltb}
 use Rattle.laws.specs.Lists.{All, one}
 use Rattle.laws.proofs.Each.{each-holds}
 use Rattle.laws.proofs.Tests.{less?, pick, pick-by}
@@ -178,36 +178,55 @@ source-long g p i q = pick (λ (k : Graph). length k ≡ length g) (hasMarked (n
 sink-long : (g : Graph) (p j : ℕ) (e : Edge) → length (gainSink g p j e) ≡ length g
 sink-long g p j e = pick (λ (k : Graph). length k ≡ length g) (leadsTo (es₂ g p j e) p) g (k₂ g p j e) refl (length-set (h₂ g p j e) p _ ∙ length-set g (e .to) _)
 
+-- what one end of the list does: where it leads to no node, nothing
+abbrev sourced : Graph → ℕ → ℕ → Edge → Graph
+sourced g p i e = cond (ltb (e .to) (length g)) (gainSource g p i (e .to)) g
+
+abbrev sunk : Graph → ℕ → ℕ → Edge → Graph
+sunk g p j e = cond (ltb (e .to) (length g)) (gainSink g p j e) g
+
+sourced-long : (g : Graph) (p i : ℕ) (e : Edge) → length (sourced g p i e) ≡ length g
+sourced-long g p i e = pick (λ (k : Graph). length k ≡ length g) (ltb (e .to) (length g)) (gainSource g p i (e .to)) g (source-long g p i (e .to)) refl
+
+sunk-long : (g : Graph) (p j : ℕ) (e : Edge) → length (sunk g p j e) ≡ length g
+sunk-long g p j e = pick (λ (k : Graph). length k ≡ length g) (ltb (e .to) (length g)) (gainSink g p j e) g (sink-long g p j e) refl
+
+sourced-there : (g : Graph) (p i : ℕ) (e : Edge) → e .to < length g → Source (sourced g p i e) p (e .to)
+sourced-there g p i e l = rw (lt-ltb (e .to) (length g) l) (gained-source g p i (e .to) l)
+
+sunk-there : (g : Graph) (p j : ℕ) (e : Edge) → e .to < length g → Sink (sunk g p j e) (e .to) p
+sunk-there g p j e l = rw (lt-ltb (e .to) (length g) l) (gained-sink g p j e l)
+
 all-more-sources : (es : List Edge) (g : Graph) (p i x y : ℕ) → Source g x y → Source (completeSinks g p i es) x y
 all-more-sources [] g p i x y h = h
-all-more-sources (e ∷ es) g p i x y h = all-more-sources es (gainSource g p i (e .to)) p (suc i) x y (more-sources g p i (e .to) x y h)
+all-more-sources (e ∷ es) g p i x y h = all-more-sources es (sourced g p i e) p (suc i) x y (pick (λ (k : Graph). Source k x y) (ltb (e .to) (length g)) (gainSource g p i (e .to)) g (more-sources g p i (e .to) x y h) h)
 
 all-gained : (es : List Edge) (g : Graph) (p i y : ℕ) → y < length g → leadsTo es y ≡ true → Source (completeSinks g p i es) p y
 all-gained [] g p i y l h = absurd (false≢true h)
-all-gained (e ∷ es) g p i y l h = go (eqb (e .to) y) refl h (all-gained es (gainSource g p i (e .to)) p (suc i) y (subst (λ (n : ℕ). y < n) (sym (source-long g p i (e .to))) l))
+all-gained (e ∷ es) g p i y l h = go (eqb (e .to) y) refl h (all-gained es (sourced g p i e) p (suc i) y (subst (λ (n : ℕ). y < n) (sym (sourced-long g p i e)) l))
   where
-    go : (b : Bool) → eqb (e .to) y ≡ b → (b || leadsTo es y) ≡ true → (leadsTo es y ≡ true → Source (completeSinks (gainSource g p i (e .to)) p (suc i) es) p y) → Source (completeSinks (gainSource g p i (e .to)) p (suc i) es) p y
+    go : (b : Bool) → eqb (e .to) y ≡ b → (b || leadsTo es y) ≡ true → (leadsTo es y ≡ true → Source (completeSinks (sourced g p i e) p (suc i) es) p y) → Source (completeSinks (sourced g p i e) p (suc i) es) p y
     go true t u f =
         let z : e .to ≡ y = eqb-true (e .to) y t in
-        all-more-sources es (gainSource g p i (e .to)) p (suc i) p y (subst (λ (w : ℕ). Source (gainSource g p i (e .to)) p w) z (gained-source g p i (e .to) (subst (λ (w : ℕ). w < length g) (sym z) l)))
+        all-more-sources es (sourced g p i e) p (suc i) p y (subst (λ (w : ℕ). Source (sourced g p i e) p w) z (sourced-there g p i e (subst (λ (w : ℕ). w < length g) (sym z) l)))
     go false t u f = f u
 
 all-same-sinks : (es : List Edge) (g : Graph) (p i x : ℕ) → nodeAt (completeSinks g p i es) x .sinks ≡ nodeAt g x .sinks
 all-same-sinks [] g p i x = refl
-all-same-sinks (e ∷ es) g p i x = all-same-sinks es (gainSource g p i (e .to)) p (suc i) x ∙ same-sinks g p i (e .to) x
+all-same-sinks (e ∷ es) g p i x = all-same-sinks es (sourced g p i e) p (suc i) x ∙ pick (λ (k : Graph). nodeAt k x .sinks ≡ nodeAt g x .sinks) (ltb (e .to) (length g)) (gainSource g p i (e .to)) g (same-sinks g p i (e .to) x) refl
 
 all-more-sinks : (es : List Edge) (g : Graph) (p j x y : ℕ) → Sink g x y → Sink (completeSources g p j es) x y
 all-more-sinks [] g p j x y h = h
-all-more-sinks (e ∷ es) g p j x y h = all-more-sinks es (gainSink g p j e) p (suc j) x y (more-sinks g p j e x y h)
+all-more-sinks (e ∷ es) g p j x y h = all-more-sinks es (sunk g p j e) p (suc j) x y (pick (λ (k : Graph). Sink k x y) (ltb (e .to) (length g)) (gainSink g p j e) g (more-sinks g p j e x y h) h)
 
 all-gained₂ : (es : List Edge) (g : Graph) (p j x : ℕ) → x < length g → leadsTo es x ≡ true → Sink (completeSources g p j es) x p
 all-gained₂ [] g p j x l h = absurd (false≢true h)
-all-gained₂ (e ∷ es) g p j x l h = go (eqb (e .to) x) refl h (all-gained₂ es (gainSink g p j e) p (suc j) x (subst (λ (n : ℕ). x < n) (sym (sink-long g p j e)) l))
+all-gained₂ (e ∷ es) g p j x l h = go (eqb (e .to) x) refl h (all-gained₂ es (sunk g p j e) p (suc j) x (subst (λ (n : ℕ). x < n) (sym (sunk-long g p j e)) l))
   where
-    go : (b : Bool) → eqb (e .to) x ≡ b → (b || leadsTo es x) ≡ true → (leadsTo es x ≡ true → Sink (completeSources (gainSink g p j e) p (suc j) es) x p) → Sink (completeSources (gainSink g p j e) p (suc j) es) x p
+    go : (b : Bool) → eqb (e .to) x ≡ b → (b || leadsTo es x) ≡ true → (leadsTo es x ≡ true → Sink (completeSources (sunk g p j e) p (suc j) es) x p) → Sink (completeSources (sunk g p j e) p (suc j) es) x p
     go true t u f =
         let z : e .to ≡ x = eqb-true (e .to) x t in
-        all-more-sinks es (gainSink g p j e) p (suc j) x p (subst (λ (w : ℕ). Sink (gainSink g p j e) w p) z (gained-sink g p j e (subst (λ (w : ℕ). w < length g) (sym z) l)))
+        all-more-sinks es (sunk g p j e) p (suc j) x p (subst (λ (w : ℕ). Sink (sunk g p j e) w p) z (sunk-there g p j e (subst (λ (w : ℕ). w < length g) (sym z) l)))
     go false t u f = f u
 
 -- ---- what is kept through all steps: node x has its sinks done, if it is below k, and node y its sources, if it is below l
@@ -217,16 +236,16 @@ module _ (n x y : ℕ) where
     there : x < k → Sink g x y → Source g x y
     back : y < l → Source g x y → Sink g x y
 
-  gain-source-pairs : (k l : ℕ) (g : Graph) (p i q : ℕ) → p < n → SinkAt g p i q → Pairs k l g → Pairs k l (gainSource g p i q)
-  gain-source-pairs k l g p i q h s a =
+  gain-source-pairs : (k l : ℕ) (g : Graph) (p i q : ℕ) → p < n → q < length g → SinkAt g p i q → Pairs k l g → Pairs k l (gainSource g p i q)
+  gain-source-pairs k l g p i q h m s a =
       record {
         long = source-long g p i q ∙ a .long;
         there = λ h. sink-source g p i q s x y (a .there h);
         back = λ h. source-sink g p i q s x y (a .back h);
       }
 
-  gain-sink-pairs : (k l : ℕ) (g : Graph) (p j : ℕ) (e : Edge) → p < n → SourceAt g p j e → Pairs k l g → Pairs k l (gainSink g p j e)
-  gain-sink-pairs k l g p j e h s a =
+  gain-sink-pairs : (k l : ℕ) (g : Graph) (p j : ℕ) (e : Edge) → p < n → e .to < length g → SourceAt g p j e → Pairs k l g → Pairs k l (gainSink g p j e)
+  gain-sink-pairs k l g p j e h m s a =
       record {
         long = sink-long g p j e ∙ a .long;
         there = λ h. sink-source₂ g p j e s x y (a .there h);
@@ -261,7 +280,7 @@ module _ (n x y : ℕ) where
         same : leadsTo (nodeAt k p .sources) x ≡ leadsTo (nodeAt m p .sources) x
         same =
             sources-hold n (λ (g : Graph). leadsTo (nodeAt g p .sources) x ≡ leadsTo (nodeAt m p .sources) x)
-            (λ g r j e l s h. same-sources g r j e s x p ∙ h) (nodeAt m p .sources) m p 0 inp refl refl
+            (λ g r j e l u s h. same-sources g r j e s x p ∙ h) (nodeAt m p .sources) m p 0 inp refl refl
 
         by : Pairs (suc p) p k → (y < p) ⊎ (p ≤ y) → y < suc p → Source k x y → Sink k x y
         by b (inl h) i = b .back h
@@ -310,7 +329,7 @@ pub complete-mutual : (g : Graph) → Aimed (length g) g → Mutual (complete g)
 complete-mutual g a p q = go (less? p (length g)) (less? q (length g))
   where
     aims : Aimed (length g) (complete g)
-    aims = complete-aims g a
+    aims = complete-aims (length g) (length g) (omega arith) g refl a
 
     go : (p < length g) ⊎ (length g ≤ p) → (q < length g) ⊎ (length g ≤ q) → leadsTo (nodeAt (complete g) p .sinks) q ≡ leadsTo (nodeAt (complete g) q .sources) p
     go (inl hp) (inl hq) = mutual-given g p q hp hq

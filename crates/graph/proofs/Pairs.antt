@@ -169,7 +169,7 @@ pub paired-one : (g : ℕ) (xs ys : List Item) (y : Item) → Paired g xs ys →
 paired-one g xs ys y f e k l h = which g xs ys y f e k l h (eqb k (length ys)) refl
 
 -- the records of the nodes from p on
-dues-gone : (z : Item) (zs : List Item) (p k : ℕ) → z .owner < p → dues (z ∷ zs) p k ≡ dues zs p k
+pub dues-gone : (z : Item) (zs : List Item) (p k : ℕ) → z .owner < p → dues (z ∷ zs) p k ≡ dues zs p k
 dues-gone z zs p zero h = refl
 dues-gone z zs p (suc k) h =
     let n : eqb (z .owner) p ≡ false = ne-eqb (z .owner) p (λ e. omega arith) in
@@ -183,7 +183,7 @@ dues-cons : (z : Item) (zs : List Item) (p k : ℕ) → dues (z ∷ zs) p k ≤ 
 dues-cons z zs p zero = omega arith
 dues-cons z zs p (suc k) = dues-look z zs p k (eqb (z .owner) p) refl (dues-cons z zs (suc p) k)
 
-dues-none : (p k : ℕ) → dues [] p k ≡ 0
+pub dues-none : (p k : ℕ) → dues [] p k ≡ 0
 dues-none p zero = refl
 dues-none p (suc k) = let d : dues [] (suc p) k ≡ 0 = dues-none (suc p) k in omega (arith, d)
 

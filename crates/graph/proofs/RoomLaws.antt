@@ -1,31 +1,36 @@
 -- Completion leaves at most 64 sources and at most 64 sinks.
 -- A sink is gained only by an unmarked source, which is then marked: sinks and unmarked sources together do not grow.
--- A source is gained only by a given sink, once: a sink that was gained has its source. So sources and the given sinks not yet gone through do not grow.
+-- A source is gained only by a given sink that leads to a node, once: a sink that was gained has its source. So sources and the given sinks of this
+-- kind that are not yet gone through do not grow. The others each give a source in joining, and an unmarked source that leads to nothing gives a sink.
 -- Assumes nothing.
-use Prim.Native.Nat.{ℕ, zero, suc, _+_, _-_, _≤_, _<_}
+use Prim.Native.Nat.{ℕ, zero, suc, _+_, _≤_, _<_}
 use native.Mathlib.Omega.{arith}
 use native.Mathlib.Nat.{le-of-suc-le-suc, not-suc-le-zero}
 use mathlib.Core.Path.{_≡_, refl, ap, sym, _∙_, subst}
-use mathlib.Core.Bool.{Bool, true, false, _&&_, _||_}
+use mathlib.Core.Bool.{Bool, true, false, cond, _&&_, _||_}
 use mathlib.Core.Option.{Option, none, some}
 use mathlib.Core.Logic.{_⊎_, inl, inr, ⊎-elim}
 use mathlib.Core.List.{List, [], _∷_, _++_, map, map-append}
 use lib.Dec.{eqb, ltb}
 use lib.ListN.{length, getD, set, drop, length-map, length-set, length-append, List·getD-append}
 use lib.Seq.{map-set-same, getD-append-seam, drop-cons}
-use borrow.Author.Tests.{eq-eqb, ltb-true, ltb-false}
+use borrow.Author.Tests.{eq-eqb, ltb-true, ltb-false, lt-ltb}
 use Rattle.laws.proofs.Each.{each-holds}
-use Rattle.laws.specs.Lists.{one, tally}
+use Rattle.laws.specs.Lists.{All, one, tally}
+use Rattle.laws.proofs.Lists.{all-map}
 use Rattle.laws.proofs.Tests.{pick, pick-by}
 use Rattle.graph.specs.Graph.{Edge, Node, Graph, noText, noEdge, bare, nodeAt, degree, isMark, leadsTo, hasMarked, withSources, withSinks}
 use Rattle.graph.specs.Completion.{gainSource, completeSinks, marked, gainSink, completeNode, complete}
-use Rattle.graph.specs.Cutting.{turned, pointed, firstNode, secondNode, cutGraph, cutting}
+use Rattle.graph.specs.Cutting.{turned, pointed, firstNode, secondNode, cutGraph, reached, cutting}
+use Rattle.graph.specs.Joining.{outside}
 use Rattle.graph.specs.Laws.{SinkAt, Names, ends}
 use Rattle.graph.proofs.Keeps.{cutting-keeps}
 use Rattle.graph.proofs.Pairs.{false-true, or-mono, or-right, and-false}
-use Rattle.graph.proofs.Completes.{unmark, SourceAt, sourcesIn, sinks-at, gain-source-sinks, gain-sink-sources, sources-hold, drop-head}
-use Rattle.graph.proofs.AimLaws.{To, all-in, node-aims}
-use Rattle.graph.proofs.MarkLaws.{node-set, node-same, Good, gain-source-good, gain-sink-good, h₂, k₂, to-in, sources-same}
+use Rattle.graph.proofs.Completes.{unmark, SourceAt, sinksIn, sourcesIn, sinks-at, gain-source-sinks, gain-sink-sources, sources-hold, complete-holds, drop-head}
+use Rattle.graph.proofs.AimLaws.{all-in}
+use Rattle.graph.proofs.MarkLaws.{node-set, node-same, Good, moved, gain-source-good, gain-sink-good, h₂, k₂, both, sources-same}
+use Rattle.graph.proofs.Joins.{either}
+use Rattle.graph.proofs.JoinLaws.{either-by, bare-lead, outers}
 
 -- ---- totals over the nodes
 abbrev sum : List ℕ → ℕ
@@ -104,8 +109,39 @@ marked-new (x ∷ es) zero y p i h a b =
     ∙ ap (λ (c : Bool). c || hasMarked es p i) (eq-eqb i i refl)
 marked-new (x ∷ es) (suc j) y p i h a b = or-right (eqb (x .to) p && isMark (x .mark) i) (marked-new es j y p i (le-of-suc-le-suc h) a b)
 
--- ---- what holds before each step; d₀ is the number of sinks that each node was given, m the sources and sinks that were given
-module _ (n m : ℕ) (d₀ : ℕ → ℕ) where
+-- ---- the edges that lead to one of the first n nodes
+abbrev inner : ℕ → List Edge → ℕ
+inner n [] = 0
+inner n (e ∷ es) = cond (ltb (e .to) n) (suc (inner n es)) (inner n es)
+
+inner-outside : (n : ℕ) (es : List Edge) → inner n es + outside n es ≡ length es
+inner-outside n [] = refl
+inner-outside n (e ∷ es) =
+    either (λ c. cond c (suc (inner n es)) (inner n es) + cond c (outside n es) (suc (outside n es)) ≡ suc (length es))
+    (omega (arith, inner-outside n es)) (omega (arith, inner-outside n es)) (ltb (e .to) n)
+
+inner-cons : (n : ℕ) (e : Edge) (es : List Edge) → inner n es ≤ inner n (e ∷ es)
+inner-cons n e es = either (λ c. inner n es ≤ cond c (suc (inner n es)) (inner n es)) (omega arith) (omega arith) (ltb (e .to) n)
+
+inner-less : (n : ℕ) (es : List Edge) (i : ℕ) → inner n (drop (suc i) es) ≤ inner n (drop i es)
+inner-less n [] zero = omega arith
+inner-less n [] (suc i) = omega arith
+inner-less n (e ∷ es) zero = inner-cons n e es
+inner-less n (e ∷ es) (suc i) = inner-less n es i
+
+-- one of them gone through
+inner-next : (n : ℕ) (es : List Edge) (i : ℕ) → i < length es → getD es i noEdge .to < n → inner n (drop i es) ≡ suc (inner n (drop (suc i) es))
+inner-next n es i h l = ap (inner n) (drop-cons es i noEdge h) ∙ ap (λ (c : Bool). cond c (suc (inner n (drop (suc i) es))) (inner n (drop (suc i) es))) (lt-ltb (getD es i noEdge .to) n l)
+
+-- ---- what holds before each step; g₀ is the graph that was given, m the number of its sources and sinks
+module _ (n m : ℕ) (g₀ : Graph) where
+  abbrev d₀ : ℕ → ℕ
+  d₀ p = degree g₀ p
+
+  -- the sinks of p that have yet to be gone through, from number i on
+  abbrev due : ℕ → ℕ → ℕ
+  due p i = inner n (drop i (nodeAt g₀ p .sinks))
+
   -- a sink that was gained has its source
   abbrev Paired : Graph → Type 0
   Paired g = (p i q : ℕ) → d₀ p ≤ i → SinkAt g p i q → hasMarked (nodeAt g q .sources) p i ≡ true
@@ -113,10 +149,11 @@ module _ (n m : ℕ) (d₀ : ℕ → ℕ) where
   pub record Roomed (g : Graph) : Type 0 where
     pub good : Good n g
     pub paired : Paired g
+    pub front : (p i q : ℕ) → SinkAt g₀ p i q → SinkAt g p i q
     pub room : total sinkCount g + total bareCount g ≤ m
 
   -- ---- sink i of p gains its source
-  module _ (g : Graph) (p i q : ℕ) (l : p < n) (s : SinkAt g p i q) (a : Roomed g) where
+  module _ (g : Graph) (p i q : ℕ) (l : p < n) (q-in : q < length g) (s : SinkAt g p i q) (a : Roomed g) where
     abbrev es : List Edge
     es = nodeAt g q .sources
 
@@ -125,9 +162,6 @@ module _ (n m : ℕ) (d₀ : ℕ → ℕ) where
 
     abbrev h : Graph
     h = withSources g q (es ++ one new)
-
-    q-in : q < length g
-    q-in = subst (λ (k : ℕ). k < length g) (s .leads) (rw (a .good .long) (all-in (To n) (nodeAt g p .sinks) i noEdge (s .inside) (node-aims n g p (a .good .aimed) .sinks)))
 
     h-sinks : (r : ℕ) → nodeAt h r .sinks ≡ nodeAt g r .sinks
     h-sinks r = sinks-at g h (map-set-same (λ (y : Node). y .sinks) g q _ bare refl) r
@@ -145,25 +179,28 @@ module _ (n m : ℕ) (d₀ : ℕ → ℕ) where
     gains-source : Roomed (gainSource g p i q)
     gains-source =
         record {
-          good = gain-source-good n g p i q l s (a .good);
+          good = gain-source-good n g p i q l q-in s (a .good);
           paired = pick Paired (hasMarked es p i) g h (a .paired) h-paired;
+          front = pick (λ u. (r k x : ℕ) → SinkAt g₀ r k x → SinkAt u r k x) (hasMarked es p i) g h (a .front) (λ r k x t. moved g p i q s (a .good .marks) r k x (a .front r k x t));
           room = pick (λ u. total sinkCount u + total bareCount u ≤ m) (hasMarked es p i) g h (a .room) h-room;
         }
 
     -- at most one more, and none for a sink that was gained
-    gains-count : total sourceCount (gainSource g p i q) + (d₀ p - suc i) ≤ total sourceCount g + (d₀ p - i)
+    gains-count : total sourceCount (gainSource g p i q) + due p (suc i) ≤ total sourceCount g + due p i
     gains-count =
-        pick-by (λ u. total sourceCount u + (d₀ p - suc i) ≤ total sourceCount g + (d₀ p - i)) (hasMarked es p i) g h (λ z. omega arith)
+        pick-by (λ u. total sourceCount u + due p (suc i) ≤ total sourceCount g + due p i) (hasMarked es p i) g h (λ z. omega (arith, inner-less n (nodeAt g₀ p .sinks) i))
         (λ z.
         let few : i < d₀ p = below z (ltb i (d₀ p)) refl in
-        omega (arith, few, total-set sourceCount g q (record { sources = es ++ one new; lines = nodeAt g q .lines; sinks = nodeAt g q .sinks }) q-in, length-append es (one new)))
+        let to-is : getD (nodeAt g₀ p .sinks) i noEdge .to ≡ q = sym (a .front p i (getD (nodeAt g₀ p .sinks) i noEdge .to) (record { inside = few; leads = refl }) .leads) ∙ s .leads in
+        let next : due p i ≡ suc (due p (suc i)) = inner-next n (nodeAt g₀ p .sinks) i few (omega (arith, to-is, q-in, a .good .long)) in
+        omega (arith, next, total-set sourceCount g q (record { sources = es ++ one new; lines = nodeAt g q .lines; sinks = nodeAt g q .sinks }) q-in, length-append es (one new)))
       where
         below : hasMarked es p i ≡ false → (b : Bool) → ltb i (d₀ p) ≡ b → i < d₀ p
         below z true e = ltb-true i (d₀ p) e
         below z false e = false-true (sym z ∙ a .paired p i q (ltb-false i (d₀ p) e) s)
 
   -- ---- source j of p gains its sink
-  module _ (g : Graph) (p j : ℕ) (e : Edge) (l : p < n) (s : SourceAt g p j e) (a : Roomed g) (lack : leadsTo (nodeAt g (e .to) .sinks) p ≡ false) where
+  module _ (g : Graph) (p j : ℕ) (e : Edge) (l : p < n) (q-in : e .to < length g) (s : SourceAt g p j e) (a : Roomed g) (lack : leadsTo (nodeAt g (e .to) .sinks) p ≡ false) where
     abbrev q₁ : ℕ
     q₁ = e .to
 
@@ -174,16 +211,16 @@ module _ (n m : ℕ) (d₀ : ℕ → ℕ) where
     sink = record { to = p; mark = none; text = noText }
 
     abbrev h₁ : Graph
-    h₁ = h₂ n g p j e l s (a .good)
+    h₁ = h₂ n g p j e l q-in s (a .good)
 
     abbrev xs : List Edge
     xs = nodeAt h₁ p .sources
 
     abbrev k₁ : Graph
-    k₁ = k₂ n g p j e l s (a .good)
+    k₁ = k₂ n g p j e l q-in s (a .good)
 
     same : (r : ℕ) → nodeAt h₁ r .sources ≡ nodeAt g r .sources
-    same = sources-same n g p j e l s (a .good)
+    same = sources-same n g p j e l q-in s (a .good)
 
     to-is : getD (nodeAt g p .sources) j noEdge .to ≡ q₁
     to-is = ap (λ (x : Edge). x .to) (s .is)
@@ -211,7 +248,7 @@ module _ (n m : ℕ) (d₀ : ℕ → ℕ) where
         omega (
           arith,
           a .room,
-          total-set sinkCount g q₁ x (rw (a .good .long) (to-in n g p j e l s (a .good))),
+          total-set sinkCount g q₁ x q-in,
           length-append ys (one sink),
           total-same bareCount g q₁ x refl,
           total-same sinkCount h₁ p y refl,
@@ -263,14 +300,15 @@ module _ (n m : ℕ) (d₀ : ℕ → ℕ) where
         (subst (λ (c : ℕ). hasMarked (nodeAt k₁ c .sources) q₁ (length ys) ≡ true) (sym (u .2)) new-mark)))
         (old r i x t)
 
-  gains-sink : (g : Graph) (p j : ℕ) (e : Edge) → p < n → SourceAt g p j e → Roomed g → Roomed (gainSink g p j e)
-  gains-sink g p j e l s a =
-      pick-by Roomed (leadsTo (nodeAt g (e .to) .sinks) p) g (k₂ n g p j e l s (a .good)) (λ z. a)
+  gains-sink : (g : Graph) (p j : ℕ) (e : Edge) → p < n → e .to < length g → SourceAt g p j e → Roomed g → Roomed (gainSink g p j e)
+  gains-sink g p j e l q-in s a =
+      pick-by Roomed (leadsTo (nodeAt g (e .to) .sinks) p) g (k₂ n g p j e l q-in s (a .good)) (λ z. a)
       (λ z.
       record {
-        good = rw z at (gain-sink-good n g p j e l s (a .good));
-        paired = k-paired g p j e l s a z;
-        room = k-room g p j e l s a z;
+        good = rw z at (gain-sink-good n g p j e l q-in s (a .good));
+        paired = k-paired g p j e l q-in s a z;
+        front = λ r i x t. both n g p j e l q-in s (a .good) r i x (a .front r i x t);
+        room = k-room g p j e l q-in s a z;
       })
 
   -- ---- the sinks of p, and then its sources
@@ -286,19 +324,25 @@ module _ (n m : ℕ) (d₀ : ℕ → ℕ) where
     pub roomed : Roomed g
     pub count : total sourceCount g ≡ c
 
-  same-sink : (c : ℕ) (g : Graph) (p j : ℕ) (e : Edge) → p < n → SourceAt g p j e → Same c g → Same c (gainSink g p j e)
-  same-sink c g p j e l s a = record { roomed = gains-sink g p j e l s (a .roomed); count = sources-kept g (gainSink g p j e) (gain-sink-sources g p j e (s .is)) ∙ a .count }
+  same-sink : (c : ℕ) (g : Graph) (p j : ℕ) (e : Edge) → p < n → e .to < length g → SourceAt g p j e → Same c g → Same c (gainSink g p j e)
+  same-sink c g p j e l q-in s a = record { roomed = gains-sink g p j e l q-in s (a .roomed); count = sources-kept g (gainSink g p j e) (gain-sink-sources g p j e (s .is)) ∙ a .count }
 
-  sinks-room : (es : List Edge) (g : Graph) (p i : ℕ) → p < n → drop i (nodeAt g p .sinks) ≡ es → Roomed g → Roomed (completeSinks g p i es) × (total sourceCount (completeSinks g p i es) ≤ total sourceCount g + (d₀ p - i))
+  sinks-room : (es : List Edge) (g : Graph) (p i : ℕ) → p < n → drop i (nodeAt g p .sinks) ≡ es → Roomed g → Roomed (completeSinks g p i es) × (total sourceCount (completeSinks g p i es) ≤ total sourceCount g + due p i)
   sinks-room [] g p i l e a = (a, omega arith)
   sinks-room (x ∷ es) g p i l e a =
       let f = drop-head (nodeAt g p .sinks) i x es noEdge e in
       let at : SinkAt g p i (x .to) = record { inside = f .0; leads = ap (λ (y : Edge). y .to) (f .1) } in
-      let u : Graph = gainSource g p i (x .to) in
-      let r = sinks-room es u p (suc i) l (ap (drop (suc i)) (sinks-at g u (gain-source-sinks g p i (x .to)) p) ∙ f .2) (gains-source g p i (x .to) l at a) in
-      (r .0, omega (arith, r .1, gains-count g p i (x .to) l at a))
+      let v : Graph = gainSource g p i (x .to) in
+      let b : Bool = ltb (x .to) (length g) in
+      let u : Graph = cond b v g in
+      let same : sinksIn u ≡ sinksIn g = pick (λ k. sinksIn k ≡ sinksIn g) b v g (gain-source-sinks g p i (x .to)) refl in
+      let roomed : Roomed u = pick-by Roomed b v g (λ z. gains-source g p i (x .to) l (ltb-true (x .to) (length g) z) at a) (λ z. a) in
+      let count : total sourceCount u + due p (suc i) ≤ total sourceCount g + due p i =
+      pick-by (λ k. total sourceCount k + due p (suc i) ≤ total sourceCount g + due p i) b v g (λ z. gains-count g p i (x .to) l (ltb-true (x .to) (length g) z) at a) (λ z. omega (arith, inner-less n (nodeAt g₀ p .sinks) i)) in
+      let r = sinks-room es u p (suc i) l (ap (drop (suc i)) (sinks-at g u same p) ∙ f .2) roomed in
+      (r .0, omega (arith, r .1, count))
 
-  node-room : (g : Graph) (p : ℕ) → p < n → Roomed g → Roomed (completeNode g p) × (total sourceCount (completeNode g p) ≤ total sourceCount g + d₀ p)
+  node-room : (g : Graph) (p : ℕ) → p < n → Roomed g → Roomed (completeNode g p) × (total sourceCount (completeNode g p) ≤ total sourceCount g + due p 0)
   node-room g p l a =
       let u : Graph = completeSinks g p 0 (nodeAt g p .sinks) in
       let r = sinks-room (nodeAt g p .sinks) g p 0 l refl a in
@@ -318,40 +362,130 @@ bares-le (x ∷ g) = omega (arith, bares-le g, each-bare (x .sources))
     each-bare [] = omega arith
     each-bare (e ∷ es) = tally-le (none-is (e .mark)) (each-bare es)
 
--- ---- all nodes: the sources so far, and the sinks that were given to the nodes not yet gone through
-abbrev given-from : Graph → ℕ → ℕ
-given-from g p = sum (map sinkCount (drop p g))
+-- ---- all nodes: the sources so far, and the sinks to nodes that were given to the nodes not yet gone through
+abbrev given-from : ℕ → Graph → ℕ → ℕ
+given-from n g p = sum (map (λ (x : Node). inner n (x .sinks)) (drop p g))
 
-given-next : (g : Graph) (p : ℕ) → p < length g → given-from g p ≡ degree g p + given-from g (suc p)
-given-next g p h = rw (drop-cons g p bare h)
+given-next : (n : ℕ) (g : Graph) (p : ℕ) → p < length g → given-from n g p ≡ inner n (nodeAt g p .sinks) + given-from n g (suc p)
+given-next n g p h = rw (drop-cons g p bare h)
+
+outers-total : (list : Node → List Edge) (n : ℕ) (g : Graph) → outers list n g ≡ total (λ (x : Node). outside n (list x)) g
+outers-total list n [] = refl
+outers-total list n (x ∷ g) = omega (arith, outers-total list n g)
+
+given-all : (n : ℕ) (g : Graph) → sum (map (λ (x : Node). inner n (x .sinks)) g) + outers (λ (x : Node). x .sinks) n g ≡ total sinkCount g
+given-all n [] = refl
+given-all n (x ∷ g) = omega (arith, given-all n g, inner-outside n (x .sinks))
+
+-- an unmarked source is one of those that may give a sink
+leads-bare : (n : ℕ) (es : List Edge) → All (λ (e : Edge). n ≤ e .to → e .mark ≡ none) es → outside n es ≤ bares es
+leads-bare n [] a = omega arith
+leads-bare n (e ∷ es) a =
+    either-by (ltb (e .to) n) (λ c. cond c (outside n es) (suc (outside n es)) ≤ tally (none-is (e .mark)) (bares es))
+    (λ z. tally-more (none-is (e .mark)) (leads-bare n es (a .1)))
+    (λ z. rw (a .0 (ltb-false (e .to) n z)) (omega (arith, leads-bare n es (a .1))))
+  where
+    tally-more : (b : Bool) {i k : ℕ} → i ≤ k → i ≤ tally b k
+    tally-more true h = omega arith
+    tally-more false h = h
+
+all-leads-bare : (n : ℕ) (g : Graph) → ((p : ℕ) → All (λ (e : Edge). n ≤ e .to → e .mark ≡ none) (nodeAt g p .sources)) → outers (λ (x : Node). x .sources) n g ≤ total bareCount g
+all-leads-bare n [] f = omega arith
+all-leads-bare n (x ∷ g) f = omega (arith, leads-bare n (x .sources) (f 0), all-leads-bare n g (λ p. f (suc p)))
 
 module _ (g : Graph) (m : ℕ) (good : Good (length g) g) (few : ends (λ (x : Node). x .sources) g + ends (λ (x : Node). x .sinks) g ≤ m) where
   room : total sourceCount g + total sinkCount g ≤ m
   room = omega (arith, few, ends-total (λ (x : Node). x .sources) g, ends-total (λ (x : Node). x .sinks) g)
 
+  abbrev outer : ℕ
+  outer = outers (λ (x : Node). x .sinks) (length g) g
+
   pub record Before (p : ℕ) (u : Graph) : Type 0 where
-    pub roomed : Roomed (length g) m (degree g) u
-    pub count : total sourceCount u + given-from g p ≤ m
+    pub roomed : Roomed (length g) m g u
+    pub count : total sourceCount u + given-from (length g) g p + outer ≤ m
 
   all-nodes : Before (length g) (complete g)
   unfolding complete
   all-nodes =
       each-holds Before (λ p u. completeNode u p) (length g)
       (λ p u l b.
-      let r = node-room (length g) m (degree g) u p l (b .roomed) in
-      record { roomed = r .0; count = omega (arith, r .1, b .count, given-next g p l) })
+      let r = node-room (length g) m g u p l (b .roomed) in
+      record { roomed = r .0; count = omega (arith, r .1, b .count, given-next (length g) g p l) })
       g
       (record {
-        roomed = record { good = good; paired = λ p i q o t. absurd (omega (arith, o, t .inside)); room = omega (arith, room, bares-le g) };
-        count = room;
+        roomed = record { good = good; paired = λ p i q o t. absurd (omega (arith, o, t .inside)); front = λ p i q t. t; room = omega (arith, room, bares-le g) };
+        count = omega (arith, room, given-all (length g) g);
       })
       (length g) (omega arith)
 
-  pub few-sources : ends (λ (x : Node). x .sources) (complete g) ≤ m
+  -- the sources, with one for each sink that leads to nothing
+  pub few-sources : ends (λ (x : Node). x .sources) (complete g) + outer ≤ m
   few-sources = omega (arith, all-nodes .count, ends-total (λ (x : Node). x .sources) (complete g))
 
-  pub few-sinks : ends (λ (x : Node). x .sinks) (complete g) ≤ m
-  few-sinks = omega (arith, all-nodes .roomed .room, ends-total (λ (x : Node). x .sinks) (complete g))
+  -- the sinks, with one for each source that leads to nothing
+  pub few-sinks : ends (λ (x : Node). x .sinks) (complete g) + outers (λ (x : Node). x .sources) (length g) (complete g) ≤ m
+  few-sinks =
+      let u : Graph = complete g in
+      let b : outers (λ (x : Node). x .sources) (length g) u ≤ total bareCount u =
+      all-leads-bare (length g) u (λ p. all-map (λ e k h. bare-lead u p e k (rw (all-nodes .roomed .good .long) h)) (nodeAt u p .sources) (all-nodes .roomed .good .marks p)) in
+      omega (arith, b, all-nodes .roomed .room, ends-total (λ (x : Node). x .sinks) u)
+
+-- ---- completion neither takes nor adds a lead to nothing
+module _ (n : ℕ) where
+  outside-one : (es : List Edge) (e : Edge) → e .to < n → outside n (es ++ one e) ≡ outside n es
+  outside-one [] e h = ap (λ (c : Bool). cond c 0 1) (lt-ltb (e .to) n h)
+  outside-one (x ∷ es) e h =
+      either (λ c. cond c (outside n (es ++ one e)) (suc (outside n (es ++ one e))) ≡ cond c (outside n es) (suc (outside n es)))
+      (outside-one es e h) (ap suc (outside-one es e h)) (ltb (x .to) n)
+
+  outside-unmarked : (es : List Edge) → outside n (map unmark es) ≡ outside n es
+  outside-unmarked [] = refl
+  outside-unmarked (x ∷ es) =
+      either (λ c. cond c (outside n (map unmark es)) (suc (outside n (map unmark es))) ≡ cond c (outside n es) (suc (outside n es)))
+      (outside-unmarked es) (ap suc (outside-unmarked es)) (ltb (x .to) n)
+
+  outers-of-sources : (v : Graph) → outers (λ (x : Node). x .sources) n v ≡ sum (map (λ (es : List Edge). outside n es) (sourcesIn v))
+  outers-of-sources [] = refl
+  outers-of-sources (x ∷ v) = rw (outside-unmarked (x .sources), outers-of-sources v)
+
+  -- as many sinks and sources that lead to nothing as g has
+  pub record SameLeads (g u : Graph) : Type 0 where
+    pub sinks : outers (λ (x : Node). x .sinks) n u ≡ outers (λ (x : Node). x .sinks) n g
+    pub sources : outers (λ (x : Node). x .sources) n u ≡ outers (λ (x : Node). x .sources) n g
+
+  leads-source : (g u : Graph) (p i q : ℕ) → p < n → q < length u → SinkAt u p i q → SameLeads g u → SameLeads g (gainSource u p i q)
+  leads-source g u p i q l t s a =
+      let es : List Edge = nodeAt u q .sources in
+      let new : Edge = record { to = p; mark = some i; text = noText } in
+      let y : Node = record { sources = es ++ one new; lines = nodeAt u q .lines; sinks = nodeAt u q .sinks } in
+      let v : Graph = withSources u q (es ++ one new) in
+      pick (SameLeads g) (hasMarked es p i) u v a
+      (record {
+        sinks = outers-total (λ (x : Node). x .sinks) n v ∙ total-same (λ (x : Node). outside n (x .sinks)) u q y refl ∙ sym (outers-total (λ (x : Node). x .sinks) n u) ∙ a .sinks;
+        sources = outers-total (λ (x : Node). x .sources) n v ∙ total-same (λ (x : Node). outside n (x .sources)) u q y (outside-one es new l) ∙ sym (outers-total (λ (x : Node). x .sources) n u) ∙ a .sources;
+      })
+
+  leads-sink : (g u : Graph) (p j : ℕ) (e : Edge) → p < n → e .to < length u → SourceAt u p j e → SameLeads g u → SameLeads g (gainSink u p j e)
+  leads-sink g u p j e l t s a =
+      let es : List Edge = nodeAt u (e .to) .sinks in
+      let new : Edge = record { to = p; mark = none; text = noText } in
+      let y : Node = record { sources = nodeAt u (e .to) .sources; lines = nodeAt u (e .to) .lines; sinks = es ++ one new } in
+      let h : Graph = withSinks u (e .to) (es ++ one new) in
+      let xs : List Edge = set (nodeAt h p .sources) j (marked (length es) e) in
+      let z : Node = record { sources = xs; lines = nodeAt h p .lines; sinks = nodeAt h p .sinks } in
+      let v : Graph = withSources h p xs in
+      record {
+        sinks =
+            pick (λ k. outers (λ (x : Node). x .sinks) n k ≡ outers (λ (x : Node). x .sinks) n g) (leadsTo es p) u v (a .sinks)
+            (outers-total (λ (x : Node). x .sinks) n v ∙ total-same (λ (x : Node). outside n (x .sinks)) h p z refl ∙ total-same (λ (x : Node). outside n (x .sinks)) u (e .to) y (outside-one es new l)
+            ∙ sym (outers-total (λ (x : Node). x .sinks) n u) ∙ a .sinks);
+        sources =
+            outers-of-sources (gainSink u p j e) ∙ ap (λ (k : List (List Edge)). sum (map (λ (es : List Edge). outside n es) k)) (gain-sink-sources u p j e (s .is))
+            ∙ sym (outers-of-sources u) ∙ a .sources;
+      }
+
+  pub complete-leads : (g : Graph) → length g ≡ n → SameLeads g (complete g)
+  complete-leads g e = complete-holds n (SameLeads g) (leads-source g) (leads-sink g) g e (record { sinks = refl; sources = refl })
 
 -- ---- a cut adds a source and a sink
 cut-total : (f : Node → ℕ) (g : Graph) (c s : ℕ) (e : Edge) → ((x : Node) (es : List Edge) → length es ≡ length (x .sinks) → f (record { sources = x .sources; lines = x .lines; sinks = es }) ≡ f x) →
@@ -375,13 +509,13 @@ cut-total f g c s e h k =
 pub cutting-ends : (g : Graph) → (ends (λ (x : Node). x .sources) (cutting g .graph) ≡ ends (λ (x : Node). x .sources) g + cutting g .cuts) × (ends (λ (x : Node). x .sinks) (cutting g .graph) ≡ ends (λ (x : Node). x .sinks) g + cutting g .cuts)
 cutting-ends g =
     let r =
-    cutting-keeps (length g) (λ w. (total sourceCount (w .graph) ≡ total sourceCount g + w .cuts) × (total sinkCount (w .graph) ≡ total sinkCount g + w .cuts)) (λ w c x h. h)
-    (λ w c s hc hs hq lo h.
+    cutting-keeps (length g) (reached g) (λ w. (total sourceCount (w .graph) ≡ total sourceCount g + w .cuts) × (total sinkCount (w .graph) ≡ total sinkCount g + w .cuts)) (λ w c x h. h)
+    (λ w c s hc hs hq lo bz fr h.
     let e : Edge = getD (nodeAt (w .graph) c .sinks) s noEdge in (
       omega (arith, h .0, cut-total sourceCount (w .graph) c s e (λ x es z. refl) (λ x es z. z)),
       omega (arith, h .1, cut-total sinkCount (w .graph) c s e (λ x es z. z) (λ x es z. refl)),
     ))
-    g refl (omega arith, omega arith) .keeps in (
+    g refl refl (omega arith, omega arith) .keeps in (
       omega (arith, r .0, ends-total (λ (x : Node). x .sources) g, ends-total (λ (x : Node). x .sources) (cutting g .graph)),
       omega (arith, r .1, ends-total (λ (x : Node). x .sinks) g, ends-total (λ (x : Node). x .sinks) (cutting g .graph)),
     )

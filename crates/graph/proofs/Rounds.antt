@@ -29,7 +29,7 @@ pub record Doing (g : ℕ) (t s : Tables) (p : ℕ) : Type 0 where
   pub given : take g (itemsOf (s .sinks)) ≡ take g (itemsOf (t .sinks))
   pub room : s .sources .count + dues (take g (itemsOf (t .sinks))) p (t .n - p) ≤ 64
   pub rest : graphOf s ≡ each (graphOf t) (λ q h. completeNode h q) p
-  pub names : t .names ≡ replicate 48 255
+  pub names : t .names ≡ replicate 48 512
 
 done : (t : Tables) → each (graphOf t) (λ q h. completeNode h q) (t .n) ≡ complete (graphOf t)
 unfolding complete
@@ -55,8 +55,6 @@ doing-first t c lx ly =
                   sink-room = omega (arith, c .room);
                   source-owners = c .source-owners;
                   sink-owners = c .sink-owners;
-                  source-aims = c .source-aims;
-                  sink-aims = c .sink-aims;
                   line-owners = c .line-owners;
                 };
             sinked = sinked-bare ys xs (c .bare);
@@ -83,13 +81,7 @@ module _ (g : ℕ) (t s : Tables) (p : ℕ) (d : Doing g t s p) where
         same = d .same;
         source-count = omega (arith, d .room);
         sink-count = omega (arith, d .fit .room);
-        sound =
-            record {
-              linked = d .fit .linked;
-              source-room = omega (arith, d .room);
-              sink-room = omega (arith, d .fit .room);
-              blank = λ k a b. rw (d .same .names, d .names) (getD-replicate 48 k 255 0 b);
-            };
+        standing = record { owned = d .fit .linked; blank = λ k a b. rw (d .same .names, d .names) (getD-replicate 48 k 512 0 b) };
       }
 
   module _ (h : p < t .n) where

@@ -8,8 +8,10 @@ use mathlib.Core.Path.{_≡_, refl, ap, sym, _∙_, subst}
 use mathlib.Core.Option.{Option, none, some}
 use mathlib.Core.Bool.{Bool, true, false, cond}
 use mathlib.Core.List.{List, [], _++_}
+use lib.Dec.{ltb}
 use lib.ListN.{length, getD, set, take, drop, length-set, length-append}
 use lib.Seq.{take-append-le, set-getD, getD-set-same, take-set-le, drop-set-lt, drop-cons}
+use borrow.Author.Tests.{lt-ltb, le-ltb}
 use Rattle.laws.specs.Lists.{one}
 use Rattle.laws.proofs.Lists.{tabulate-set}
 use Rattle.graph.specs.declared.Item.{Item}
@@ -17,11 +19,11 @@ use Rattle.graph.specs.declared.Table.{Table}
 use Rattle.graph.specs.declared.Tables.{Tables}
 use Rattle.graph.specs.Graph.{Edge, Node, Graph, Line, noText, nodeAt, leadsTo, withSources, withSinks}
 use Rattle.graph.specs.Completion.{marked, gainSink, completeSources}
-use Rattle.graph.specs.code.Tables.{owned, edgeOf, markOf, nodeOf, graphFrom, graphOf, linesOf, itemsOf, markItem, sinkOf, Sunk, Linked, Fit, SinkGained, SameBut, bares}
+use Rattle.graph.specs.code.Tables.{owned, edgeOf, markOf, nodeOf, graphFrom, graphOf, linesOf, itemsOf, markItem, sinkOf, Sunk, Owned, Fit, SinkGained, SameBut, bares}
 use Rattle.graph.specs.Outcome.{noItem}
 use Rattle.graph.proofs.Lists.{node-graph, owned-end, owned-other, owned-own, table-size, table-at}
 use Rattle.graph.proofs.Gains.{owned-new, owned-old}
-use Rattle.graph.proofs.Cuts.{mark-graph, aimed-at, aimed-set, aimed-one, below-set, below-one, counted-own, counted-other}
+use Rattle.graph.proofs.Cuts.{length-graph, mark-graph, below-set, below-one, counted-own, counted-other}
 use Rattle.graph.proofs.Pairs.{gained-sinked, gained-paired, gained-bares}
 
 -- q gains a sink
@@ -53,11 +55,11 @@ module _ (n : ℕ) (ls : List (List Line)) (xs ys : List Item) (p j k : ℕ) (f 
   sinks-are : nodeAt g q .sinks ≡ owned q ys
   sinks-are = rw (node-graph n ls xs ys q hq)
 
-  test-is : (b : Bool) → leadsTo (owned q ys) p ≡ b → leadsTo (nodeAt g q .sinks) p ≡ b
-  test-is b e = ap (λ (l : List Edge). leadsTo l p) sinks-are ∙ e
+  sinks-test : (b : Bool) → leadsTo (owned q ys) p ≡ b → leadsTo (nodeAt g q .sinks) p ≡ b
+  sinks-test b e = ap (λ (l : List Edge). leadsTo l p) sinks-are ∙ e
 
   pub keeps : leadsTo (owned q ys) p ≡ true → g ≡ gainSink g p j (edgeOf x)
-  keeps e = rw (test-is true e)
+  keeps e = rw (sinks-test true e)
 
   abbrev with-sink : Graph
   with-sink = graphFrom n ls xs (ys ++ one (sinkOf p q))
@@ -74,7 +76,7 @@ module _ (n : ℕ) (ls : List (List Line)) (xs ys : List Item) (p j k : ℕ) (f 
   pub gains : leadsTo (owned q ys) p ≡ false →
       gainSink g p j (edgeOf x) ≡ graphFrom n ls (set xs k (markItem (length (owned q ys) + 1) x)) (ys ++ one (sinkOf p q))
   gains e =
-      ap (λ (b : Bool). cond b g (setting (withSinks g q (nodeAt g q .sinks ++ one (record { to = p; mark = none; text = noText }))) (marked (length (nodeAt g q .sinks)) (edgeOf x)))) (test-is false e)
+      ap (λ (b : Bool). cond b g (setting (withSinks g q (nodeAt g q .sinks ++ one (record { to = p; mark = none; text = noText }))) (marked (length (nodeAt g q .sinks)) (edgeOf x)))) (sinks-test false e)
       ∙ ap (λ (u : Graph). setting u (marked (length (nodeAt g q .sinks)) (edgeOf x))) (sink-graph n ls xs ys p q hq)
       ∙ ap (λ (l : List Edge). setting with-sink (marked (length l) (edgeOf x))) sinks-are
       ∙ ap (λ (m : Option ℕ). setting with-sink (markedAs m)) (number-held (length (owned q ys)))
@@ -87,27 +89,34 @@ pub same-trans : (t s r : Tables) → SameBut t s → SameBut s r → SameBut t 
 same-trans t s r a b = record { nodes = b .nodes ∙ a .nodes; cuts = b .cuts ∙ a .cuts; names = b .names ∙ a .names; lines = b .lines ∙ a .lines }
 
 -- the same as the code makes it: y is the table of sources with the mark, z that of sinks with the sink
-module _ (t : Tables) (b : Linked t) (p j k : ℕ) (f : Sunk (itemsOf (t .sources)) p j k) (hp : p < t .n) (q : Item) (e : getD (itemsOf (t .sources)) k noItem ≡ q) where
+module _ (t : Tables) (b : Owned t) (p j k : ℕ) (f : Sunk (itemsOf (t .sources)) p j k) (hp : p < t .n) (q : Item) (e : getD (itemsOf (t .sources)) k noItem ≡ q) where
   abbrev xk : Item
   xk = getD (itemsOf (t .sources)) k noItem
 
-  to-in : xk .to < t .n
-  to-in = aimed-at (t .n) (itemsOf (t .sources)) k (b .source-aims) (f .inside)
+  abbrev stepped : Graph
+  stepped = gainSink (graphOf t) p j (edgeOf xk)
+
+  -- the source leads to a node, or to none
+  test-is : (c : Bool) → ltb (q .to) (t .n) ≡ c → cond (ltb (xk .to) (length (graphOf t))) stepped (graphOf t) ≡ cond c stepped (graphOf t)
+  test-is c z =
+      ap (λ (d : Bool). cond d stepped (graphOf t))
+      (ap (ltb (xk .to)) (length-graph (t .n) (linesOf t) (itemsOf (t .sources)) (itemsOf (t .sinks))) ∙ ap (λ (x : Item). ltb (x .to) (t .n)) e ∙ z)
 
   owner-in : xk .owner < t .n
   owner-in = subst (λ (o : ℕ). o < t .n) (sym (f .owner)) hp
 
-  pub sink-gained : t .sinks .count < 88 → leadsTo (owned (q .to) (itemsOf (t .sinks))) p ≡ false → (m : ℕ) → m ≡ length (owned (q .to) (itemsOf (t .sinks))) → (y z : Table) →
+  pub sink-gained : q .to < t .n → t .sinks .count < 88 → leadsTo (owned (q .to) (itemsOf (t .sinks))) p ≡ false → (m : ℕ) → m ≡ length (owned (q .to) (itemsOf (t .sinks))) → (y z : Table) →
       (itemsOf y ≡ set (itemsOf (t .sources)) k (markItem (m + 1) xk)) × (y .count ≡ t .sources .count) →
       (itemsOf z ≡ itemsOf (t .sinks) ++ one (sinkOf p (q .to))) × (z .count ≡ t .sinks .count + 1) →
       SinkGained t p j k (record { n = t .n; cuts = t .cuts; names = t .names; lines = t .lines; sources = y; sinks = z })
-  sink-gained room lack m em y z hy hz =
+  sink-gained hq room lack m em y z hy hz =
+      let to-in : xk .to < t .n = rw e hq in
       let lacks : leadsTo (owned (xk .to) (itemsOf (t .sinks))) p ≡ false = rw e lack in
       let xs : List Item = itemsOf (t .sources) in
       let ys : List Item = itemsOf (t .sinks) in
       let em′ : m ≡ length (owned (xk .to) ys) = rw e em in
       let hz′ : itemsOf z ≡ ys ++ one (sinkOf p (xk .to)) = rw e (hz .0) in
-      let after : Linked (record { n = t .n; cuts = t .cuts; names = t .names; lines = t .lines; sources = y; sinks = z }) =
+      let after : Owned (record { n = t .n; cuts = t .cuts; names = t .names; lines = t .lines; sources = y; sinks = z }) =
       record {
         nodes = b .nodes;
         source-room = omega (arith, b .source-room);
@@ -115,11 +124,9 @@ module _ (t : Tables) (b : Linked t) (p j k : ℕ) (f : Sunk (itemsOf (t .source
         source-owners = rw (hy .0) (below-set (t .n) xs k (markItem (m + 1) xk) owner-in (b .source-owners));
         sink-owners = rw hz′ (below-one (t .n) (t .n) ys (sinkOf p (xk .to)) (omega arith) to-in (b .sink-owners));
         line-owners = b .line-owners;
-        source-aims = rw (hy .0) (aimed-set (t .n) (itemsOf (t .sources)) k (markItem (m + 1) xk) to-in (b .source-aims));
-        sink-aims = rw (hz .0) (aimed-one (t .n) (itemsOf (t .sinks)) (sinkOf p (q .to)) hp (b .sink-aims));
       } in
       record {
-        graph = rw (hy .0, hz .0, em, ← e) (sym (gains (t .n) (linesOf t) (itemsOf (t .sources)) (itemsOf (t .sinks)) p j k f hp to-in lacks));
+        graph = rw (test-is true (lt-ltb (q .to) (t .n) hq)) (rw (hy .0, hz .0, em, ← e) (sym (gains (t .n) (linesOf t) (itemsOf (t .sources)) (itemsOf (t .sinks)) p j k f hp to-in lacks)));
         linked = after;
         same = record { nodes = refl; cuts = refl; names = refl; lines = refl };
         source-count = hy .1;
@@ -141,11 +148,25 @@ module _ (t : Tables) (b : Linked t) (p j k : ℕ) (f : Sunk (itemsOf (t .source
             );
       }
 
-  pub sink-kept : leadsTo (owned (q .to) (itemsOf (t .sinks))) p ≡ true → SinkGained t p j k t
-  sink-kept so =
+  pub sink-kept : q .to < t .n → leadsTo (owned (q .to) (itemsOf (t .sinks))) p ≡ true → SinkGained t p j k t
+  sink-kept hq so =
+      let to-in : xk .to < t .n = rw e hq in
       let leads : leadsTo (owned (xk .to) (itemsOf (t .sinks))) p ≡ true = rw e so in
       record {
-        graph = keeps (t .n) (linesOf t) (itemsOf (t .sources)) (itemsOf (t .sinks)) p j k f hp to-in leads;
+        graph = keeps (t .n) (linesOf t) (itemsOf (t .sources)) (itemsOf (t .sinks)) p j k f hp to-in leads ∙ sym (test-is true (lt-ltb (q .to) (t .n) hq));
+        linked = b;
+        same = same-refl t;
+        source-count = refl;
+        sink-count = omega arith;
+        m = xk .mark;
+        marks = sym (set-getD (itemsOf (t .sources)) k noItem);
+        fits = λ g f′. (f′, refl);
+      }
+
+  pub sink-out : t .n ≤ q .to → SinkGained t p j k t
+  sink-out hq =
+      record {
+        graph = sym (test-is false (le-ltb (q .to) (t .n) hq));
         linked = b;
         same = same-refl t;
         source-count = refl;
@@ -157,7 +178,7 @@ module _ (t : Tables) (b : Linked t) (p j k : ℕ) (f : Sunk (itemsOf (t .source
 
 -- Before record k, with j sources of p gone through: the records from k on are as given, and what is left to do gives the whole.
 pub record Right (g : ℕ) (t : Tables) (p : ℕ) (s : Tables) (j k : ℕ) : Type 0 where
-  pub linked : Linked s
+  pub linked : Owned s
   pub same : SameBut t s
   pub count : s .sources .count ≡ t .sources .count
   pub within : k ≤ t .sources .count

@@ -3,16 +3,19 @@
 use Prim.Native.Nat.{ℕ, _+_, _-_, _%_, _≤_, _<_}
 use native.Mathlib.Omega.{arith}
 use native.Mathlib.Nat.{mod-eq-of-lt, zero-add}
-use mathlib.Core.Path.{_≡_, refl, ap, _∙_}
+use mathlib.Core.Path.{_≡_, refl, ap, sym, _∙_, subst}
+use mathlib.Core.Logic.{_⊎_, inl, inr, ⊎-elim}
 use mathlib.Core.Bool.{Bool, true, false}
 use mathlib.Core.Option.{Option, none, some}
 use mathlib.Core.List.{List, [], _∷_, _++_, map, append-nil}
 use lib.Dec.{ltb}
 use lib.ListN.{length, getD, List·getD-map, List·getD-eq-default}
-use borrow.Author.Tests.{ltb-true, ltb-false, ne-eqb}
+use borrow.Author.Tests.{ltb-true, ltb-false, lt-ltb, le-ltb, ne-eqb}
 use Rattle.laws.specs.Lists.{All, one}
 use Rattle.laws.proofs.Lists.{all-map, all-flat, owned-flat, tabulate-list, getD-tabulate, getD-padded, take-padded}
 use Rattle.chart.specs.declared.Line.{Line as LineItem}
+use Rattle.chart.specs.declared.Setting.{Setting}
+use Rattle.chart.specs.declared.Setting.the-variants.{Strict}
 use Rattle.chart.specs.Chart.{Part, Board, Reading, ready as accepted, refusal as refused, chart}
 use Rattle.chart.specs.Chart.{Node as GivenNode}
 use Rattle.chart.specs.Tables.{noLine, lineOf}
@@ -23,8 +26,9 @@ use Rattle.chart.proofs.Accepts.{accepted as accepts}
 use Rattle.graph.specs.declared.Item.{Item}
 use Rattle.graph.specs.declared.Tables.{Tables}
 use Rattle.graph.specs.declared.Outcome.{Outcome}
-use Rattle.graph.specs.Graph.{Line, given, number, Edge, Node, Graph, bare, givenNode, givenGraph, nodeAt}
+use Rattle.graph.specs.Graph.{Line, given, number, invalid, Edge, Node, Graph, bare, givenNode, givenGraph, nodeAt}
 use Rattle.graph.specs.Completion.{complete}
+use Rattle.graph.specs.Joining.{leadsOf, uncut}
 use Rattle.graph.specs.Cutting.{cutting}
 use Rattle.graph.specs.Graphed.{Dag, Graphed, ready, refusal, graphed}
 use Rattle.graph.specs.Laws.{Aimed, ends, Named, Laws}
@@ -32,11 +36,12 @@ use Rattle.graph.specs.Completed.{completing, completed, CompletedLaws, 
 use Rattle.graph.specs.code.Tables.{markOf, edgeOf, owned, itemsOf, nodeOf, numberLine, linesAt, linesOf, graphFrom, graphOf, Linked}
 use Rattle.graph.specs.Outcome.{heldMark, itemOf, sourcesFrom, sinksFrom, textsIn, textsFrom, nameOf, namesOf, tablesOf, outcomeOf, IsGraph}
 use Rattle.graph.specs.code.Graphs.{noNodes, Graphs, IsAnswer}
-use Rattle.graph.proofs.LineLaws.{completed-length, completed-lined, board-lined}
+use Rattle.graph.proofs.LineLaws.{completed-length}
+use Rattle.graph.proofs.JoinLaws.{OffIn}
 use Rattle.graph.proofs.AimLaws.{all-in}
 use Rattle.graph.proofs.Orders.{table-back}
-use Rattle.graph.proofs.Begins.{few-lines, none-answers}
-use Rattle.graph.proofs.Gathers.{flat-long, all-from, given-name, graph-laws, is-graphs}
+use Rattle.graph.proofs.Begins.{Kept, uncut-kept, cut-lines, few-lines, none-answers}
+use Rattle.graph.proofs.Gathers.{flat-long, all-from, given-name, Bytes, box-byte, strict-uncut, graph-laws, is-graphs}
 
 -- ---- one record, one list of lines
 mark-back : (m : Option ℕ) → markOf (heldMark m) ≡ m
@@ -69,34 +74,44 @@ given-back : (ts : List Part) → made (map given ts) ≡ map given ts
 given-back ts = rw (texts-given ts, given-name ts) (append-nil (map given ts))
 
 number-back : (q : ℕ) → q < 32 → made (one (number q)) ≡ one (number q)
-number-back q h = let n : (q ≡ 255 → ⊥) = λ e. omega arith in rw (ne-eqb q 255 n)
+number-back q h = let n : (q ≡ 512 → ⊥) = λ e. omega arith in rw (ne-eqb q 512 n, lt-ltb q 256 (omega arith))
+
+off-back : (t : ℕ) → t < 256 → made (one (invalid t)) ≡ one (invalid t)
+off-back t h =
+    let n : (256 + t ≡ 512 → ⊥) = λ e. omega arith in
+    let z : 256 + t - 256 ≡ t = omega arith in
+    rw (ne-eqb (256 + t) 512 n, le-ltb (256 + t) 256 (omega arith), z)
 
 abbrev nobody : GivenNode
 nobody = record { sources = []; lines = []; sinks = [] }
 
--- ---- a graph of the chart s that fits the tables
-record Fits (s : List ℕ) (d : Dag) : Type 0 where
+-- the line of an inserted box: a lead's shows its target, a cut's a number
+abbrev Shown : ℕ → List Line → Type 0
+Shown n ls = OffIn n 256 ls ⊎ Named n ls
+
+-- ---- a graph of the chart s, in the setting w, that fits the tables
+record Tabled (w : Setting) (s : List ℕ) (d : Dag) : Type 0 where
   board : Board
-  read : chart s ≡ accepted board
+  read : chart w s ≡ accepted board
   boxes : length (d .graph) ≤ 48
   aimed : Aimed (length (d .graph)) (d .graph)
   sources : ends (λ (x : Node). x .sources) (d .graph) ≤ 88
   sinks : ends (λ (x : Node). x .sinks) (d .graph) ≤ 88
   texts : length (textsFrom 0 (d .graph)) ≤ 128
   lines : (k : ℕ) → k < length board → nodeAt (d .graph) k .lines ≡ nodeAt (givenGraph board) k .lines
-  inserted : (k : ℕ) → length board ≤ k → k < length (d .graph) → Named (length board) (nodeAt (d .graph) k .lines)
+  inserted : (k : ℕ) → length board ≤ k → k < length (d .graph) → Shown (length board) (nodeAt (d .graph) k .lines)
 
-module _ (s : List ℕ) (d : Dag) (l : Fits s d) where
+module _ (w : Setting) (s : List ℕ) (d : Dag) (l : Tabled w s d) where
   abbrev g : Graph
   g = d .graph
 
   abbrev ps : Board
   ps = l .board
 
-  ac : Accepted s ps
-  ac = accepts s ps (l .read)
+  ac : Accepted w s ps
+  ac = accepts w s ps (l .read)
 
-  -- a given node has given lines, an inserted one a number
+  -- a given node has given lines
   module _ (k : ℕ) (h : k < length g) where
     given-lines : k < length ps → nodeAt g k .lines ≡ map given (getD ps k nobody .lines)
     given-lines i = l .lines k i ∙ ap (λ (x : Node). x .lines) (List·getD-map givenNode ps k nobody)
@@ -104,15 +119,15 @@ module _ (s : List ℕ) (d : Dag) (l : Fits s d) where
     line-back : (b : Bool) → ltb k (length ps) ≡ b → made (nodeAt g k .lines) ≡ nodeAt g k .lines
     line-back true e = rw (given-lines (ltb-true k (length ps) e)) (given-back (getD ps k nobody .lines))
     line-back false e =
-        let n : Named (length ps) (nodeAt g k .lines) = l .inserted k (ltb-false k (length ps) e) h in
-        rw (n .line) (number-back (n .q) (omega (arith, n .inside, ac .nodes)))
+        ⊎-elim (λ o. rw (o .line) (off-back (o .target) (o .small))) (λ n. rw (n .line) (number-back (n .q) (omega (arith, n .inside, ac .nodes))))
+        (l .inserted k (ltb-false k (length ps) e) h)
 
     texts-low : (b : Bool) → ltb k (length ps) ≡ b → All Low (textsIn (nodeAt g k .lines))
     texts-low true e =
         let i : k < length ps = ltb-true k (length ps) e in
-        let f : Formed s (length ps) (getD ps k nobody) = all-in (Formed s (length ps)) ps k nobody i (ac .formed) in
+        let f : Formed w s (length ps) (getD ps k nobody) = all-in (Formed w s (length ps)) ps k nobody i (ac .formed) in
         rw (given-lines i, texts-given (getD ps k nobody .lines)) (all-map (λ t (q : Fitting s t). omega (arith, q .inside, ending-from (t .len) s (t .at), ac .size)) (getD ps k nobody .lines) (f .lines))
-    texts-low false e = let n : Named (length ps) (nodeAt g k .lines) = l .inserted k (ltb-false k (length ps) e) h in rw (n .line) tt
+    texts-low false e = ⊎-elim (λ o. rw (o .line) tt) (λ n. rw (n .line) tt) (l .inserted k (ltb-false k (length ps) e) h)
 
   lows : All (λ (x : Node). All Low (textsIn (x .lines))) g
   lows = all-from (λ (x : Node). All Low (textsIn (x .lines))) g bare (λ k. go k (ltb k (length g)) refl)
@@ -155,7 +170,7 @@ module _ (s : List ℕ) (d : Dag) (l : Fits s d) where
 
     name-is : getD (t .names) (0 + i) 0 ≡ nameOf (nodeAt g i .lines)
     name-is =
-        ap (λ (k : ℕ). getD (t .names) k 0) (zero-add i) ∙ getD-padded 48 255 (namesOf g) i 0 (omega (arith, l .boxes))
+        ap (λ (k : ℕ). getD (t .names) k 0) (zero-add i) ∙ getD-padded 48 512 (namesOf g) i 0 (omega (arith, l .boxes))
         ∙ List·getD-map (λ (x : Node). nameOf (x .lines)) g i bare
 
     lines-are : getD (linesOf t) (0 + i) [] ≡ nodeAt g i .lines
@@ -192,9 +207,9 @@ module _ (s : List ℕ) (d : Dag) (l : Fits s d) where
   fitting = record { graphs = ap (λ (u : Graph). ready (record { graph = u; cuts = d .cuts })) graph-back; whole = refl; linked = linked }
 
 -- ---- the graph that is drawn
-drawn-fits : (s : List ℕ) (d : Dag) → Laws s d → Fits s d
-drawn-fits s d l =
-    let z : length (textsFrom 0 (d .graph)) ≡ length (textsFrom 0 (cutting (complete (givenGraph (l .board))) .graph)) = ap (λ (c : Dag). length (textsFrom 0 (c .graph))) (l .walk) in
+drawn-tabled : (w : Setting) (s : List ℕ) → Bytes s → (d : Dag) → Laws w s d → Tabled w s d
+drawn-tabled w s bytes d l =
+    let z : length (textsFrom 0 (d .graph)) ≡ length (textsFrom 0 (cutting (uncut (l .board)) .graph)) = ap (λ (c : Dag). length (textsFrom 0 (c .graph))) (l .walk) in
     record {
       board = l .board;
       read = l .read;
@@ -202,23 +217,27 @@ drawn-fits s d l =
       aimed = l .aimed;
       sources = l .sources;
       sinks = l .sinks;
-      texts = omega (arith, few-lines s (l .board) (l .read) _ (board-lined (l .board)));
+      texts = omega (arith, few-lines w s (l .board) (l .read) _ (cut-lines (l .board)));
       lines = l .lines;
-      inserted = l .inserted;
+      inserted = λ k h i. shown k h i (ltb k (length (l .board) + leadsOf (l .board))) refl;
     }
+  where
+    shown : (k : ℕ) → length (l .board) ≤ k → k < length (d .graph) → (b : Bool) → ltb k (length (l .board) + leadsOf (l .board)) ≡ b → Shown (length (l .board)) (nodeAt (d .graph) k .lines)
+    shown k h i true e = inl (box-byte w s bytes d l k h (ltb-true k (length (l .board) + leadsOf (l .board)) e))
+    shown k h i false e = inr (l .inserted k (ltb-false k (length (l .board) + leadsOf (l .board)) e) i)
 
-answers : (s : List ℕ) (v : Graphed) → graphed s ≡ v → IsAnswer v (outcomeOf v)
-answers s (ready d) e = fitting s d (drawn-fits s d (graph-laws s d e))
-answers s (refusal a b) e = none-answers a b noNodes refl
+answers : (w : Setting) (s : List ℕ) → Bytes s → (v : Graphed) → graphed w s ≡ v → IsAnswer v (outcomeOf v)
+answers w s bytes (ready d) e = fitting w s d (drawn-tabled w s bytes d (graph-laws w s d e))
+answers w s bytes (refusal a b) e = none-answers a b noNodes refl
 
 -- what the crates above take from the promise of `graph`
-pub graphs-of : (s : List ℕ) (r : Outcome) → IsGraph s r → Graphs s r
-graphs-of s r i = is-graphs s r (rw (i .whole) (answers s (graphed s) refl))
+pub graphs-of : (w : Setting) (s : List ℕ) (r : Outcome) → IsGraph w s r → Graphs w s r
+graphs-of w s r i = is-graphs w s (i .bytes) r (rw (i .whole) (answers w s (i .bytes) (graphed w s) refl))
 
 -- ---- the completed graph
 module _ (s : List ℕ) (r : Outcome) (i : IsCompleted s r) where
-  completed-fits : (ps : Board) → chart s ≡ accepted ps → Fits s (record { graph = complete (givenGraph ps); cuts = 0 })
-  completed-fits ps e =
+  completed-tabled : (ps : Board) → chart Strict s ≡ accepted ps → Tabled Strict s (record { graph = complete (givenGraph ps); cuts = 0 })
+  completed-tabled ps e =
       let l : CompletedLaws s (givenGraph ps) (complete (givenGraph ps)) = i .laws ps e in
       let long : length (complete (givenGraph ps)) ≡ length ps = completed-length ps in
       record {
@@ -228,24 +247,24 @@ module _ (s : List ℕ) (r : Outcome) (i : IsCompleted s r) where
         aimed = l .aimed;
         sources = omega (arith, l .sources);
         sinks = omega (arith, l .sinks);
-        texts = few-lines s ps e _ (completed-lined ps);
+        texts = few-lines Strict s ps e _ (subst (Kept ps) (strict-uncut s ps e) (uncut-kept ps));
         lines = λ k h. l .lines k (omega (arith, long));
         inserted = λ k h m. absurd (omega (arith, long));
       }
 
-  answers-by : (c : Reading) → chart s ≡ c → IsAnswer (completing c) (outcomeOf (completing c))
-  answers-by (accepted ps) e = fitting s (record { graph = complete (givenGraph ps); cuts = 0 }) (completed-fits ps e)
+  answers-by : (c : Reading) → chart Strict s ≡ c → IsAnswer (completing c) (outcomeOf (completing c))
+  answers-by (accepted ps) e = fitting Strict s (record { graph = complete (givenGraph ps); cuts = 0 }) (completed-tabled ps e)
   answers-by (refused a b) e = none-answers a b noNodes refl
 
-  few-by : (c : Reading) → chart s ≡ c → outcomeOf (completing c) .graph .n ≤ 32
+  few-by : (c : Reading) → chart Strict s ≡ c → outcomeOf (completing c) .graph .n ≤ 32
   few-by (accepted ps) e = i .laws ps e .few
   few-by (refused a b) e = omega arith
 
   -- what the crates above take from the promise of `completed`
   pub completed-answers : IsAnswer (completed s) r
   unfolding completed
-  completed-answers = rw (i .whole) (answers-by (chart s) refl)
+  completed-answers = rw (i .whole) (answers-by (chart Strict s) refl)
 
   pub completed-few : r .graph .n ≤ 32
   unfolding completed
-  completed-few = rw (i .whole) (few-by (chart s) refl)
+  completed-few = rw (i .whole) (few-by (chart Strict s) refl)

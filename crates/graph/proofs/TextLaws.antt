@@ -1,6 +1,6 @@
 -- A given node keeps the texts of its sources and sinks, in order; those that it gains have none.
 -- Assumes nothing.
-use Prim.Native.Nat.{ℕ, zero, suc, _<_}
+use Prim.Native.Nat.{ℕ, zero, suc, _≤_, _<_}
 use native.Mathlib.Omega.{arith}
 use mathlib.Core.Path.{_≡_, refl, ap, sym, _∙_, subst}
 use mathlib.Core.Bool.{Bool, true, false, cond}
@@ -14,7 +14,7 @@ use Rattle.laws.proofs.Tests.{pick}
 use Rattle.chart.specs.Chart.{Part}
 use Rattle.graph.specs.Graph.{Edge, Node, Graph, noText, noEdge, bare, nodeAt, leadsTo, hasMarked, withSources, withSinks}
 use Rattle.graph.specs.Completion.{gainSource, marked, gainSink, complete}
-use Rattle.graph.specs.Cutting.{turned, pointed, cutGraph, cutting}
+use Rattle.graph.specs.Cutting.{turned, pointed, cutGraph, reached, cutting}
 use Rattle.graph.specs.Laws.{SinkAt, textsAt, Begins, Texts}
 use Rattle.graph.proofs.Keeps.{cutting-keeps}
 use Rattle.graph.proofs.Completes.{SourceAt, complete-holds}
@@ -70,15 +70,15 @@ module _ (g₀ g : Graph) (k : Kept g₀ g) where
             (λ z. subst (λ (i : ℕ). Begins (textsAt (nodeAt g₀ i .sinks)) (textsAt es)) (sym z) b) (k r .sinks);
       }
 
-gain-source-texts : (g₀ : Graph) (n : ℕ) (g : Graph) (p i q : ℕ) → p < n → SinkAt g p i q → Kept g₀ g → Kept g₀ (gainSource g p i q)
-gain-source-texts g₀ n g p i q l s k =
+gain-source-texts : (g₀ : Graph) (n : ℕ) (g : Graph) (p i q : ℕ) → p < n → q < length g → SinkAt g p i q → Kept g₀ g → Kept g₀ (gainSource g p i q)
+gain-source-texts g₀ n g p i q l t s k =
     let es : List Edge = nodeAt g q .sources in
     let new : Edge = record { to = p; mark = some i; text = noText } in
     pick (Kept g₀) (hasMarked es p i) g (withSources g q (es ++ one new)) k
     (with-sources g₀ g k q (es ++ one new) (begins-more (textsAt (nodeAt g₀ q .sources)) es new refl (k q .sources)))
 
-gain-sink-texts : (g₀ : Graph) (n : ℕ) (g : Graph) (p j : ℕ) (e : Edge) → p < n → SourceAt g p j e → Kept g₀ g → Kept g₀ (gainSink g p j e)
-gain-sink-texts g₀ n g p j e l s k =
+gain-sink-texts : (g₀ : Graph) (n : ℕ) (g : Graph) (p j : ℕ) (e : Edge) → p < n → e .to < length g → SourceAt g p j e → Kept g₀ g → Kept g₀ (gainSink g p j e)
+gain-sink-texts g₀ n g p j e l t s k =
     let q : ℕ = e .to in
     let es : List Edge = nodeAt g q .sinks in
     let new : Edge = record { to = p; mark = none; text = noText } in
@@ -127,7 +127,7 @@ cut-texts g₀ g c s p l t =
       sinks = begins-same _ (textsAt (nodeAt g p .sinks)) _ (ap (λ (y : Node). textsAt (y .sinks)) at ∙ sinks₂ ∙ sinks₁) (t .sinks);
     }
 
-pub cutting-texts : (g₀ g : Graph) → Kept g₀ g → (p : ℕ) → p < length g → Texts g₀ (cutting g .graph) p
-cutting-texts g₀ g k =
-    cutting-keeps (length g) (λ w. (p : ℕ) → p < length g → Texts g₀ (w .graph) p) (λ w c x h. h)
-    (λ w c s hc hs hq lo h p l. cut-texts g₀ (w .graph) c s p (omega arith) (h p l)) g refl (λ p l. k p) .keeps
+pub cutting-texts : (g₀ g : Graph) (n : ℕ) → n ≤ length g → ((p : ℕ) → p < n → Texts g₀ g p) → (p : ℕ) → p < n → Texts g₀ (cutting g .graph) p
+cutting-texts g₀ g n small k =
+    cutting-keeps (length g) (reached g) (λ w. (p : ℕ) → p < n → Texts g₀ (w .graph) p) (λ w c x h. h)
+    (λ w c s hc hs hq lo bz fr h p l. cut-texts g₀ (w .graph) c s p (omega arith) (h p l)) g refl refl k .keeps

@@ -1,9 +1,10 @@
--- The completed graph of a chart, not cut.
+-- The completed graph of a chart, not cut. The chart is read in the strict setting (document 02, L5), so each end leads to a given node.
 -- Assumes nothing.
 use Prim.Native.Nat.{ℕ, _≤_, _<_}
 use mathlib.Core.Path.{_≡_}
 use mathlib.Core.List.{List}
 use lib.ListN.{length, getD}
+use Rattle.chart.specs.declared.Setting.the-variants.{Strict}
 use Rattle.chart.specs.Chart.{Board, Reading, ready as accepted, refusal as refused, chart}
 use Rattle.chart.specs.Read.{numbers, numbersOf}
 use Rattle.graph.specs.declared.Outcome.{Outcome}
@@ -13,19 +14,15 @@ use Rattle.graph.specs.Graphed.{Graphed, ready, refusal}
 use Rattle.graph.specs.Laws.{Aimed, Marked, Texts, Unmarked, ends}
 use Rattle.graph.specs.Outcome.{outcomeOf}
 
--- a graph as it is, with no cut
-abbrev pub uncut : Graph → Graphed
-uncut g = ready (record { graph = g; cuts = 0 })
-
 -- a refused chart stays refused; an accepted one is completed
 abbrev pub completing : Reading → Graphed
-completing (accepted ps) = uncut (complete (givenGraph ps))
+completing (accepted ps) = ready (record { graph = complete (givenGraph ps); cuts = 0 })
 completing (refused number second) = refusal number second
 
 -- the completed graph of a chart's bytes, or the first of the refusals 1 to 12
 unfoldable pub completed : List ℕ → Graphed
 unfolding chart complete
-completed s = completing (chart s)
+completed s = completing (chart Strict s)
 
 -- sources and sinks name each other: some sink of p leads to q exactly if some source of q comes from p
 abbrev pub Mutual : Graph → Type 0
@@ -53,4 +50,4 @@ pub record IsCompleted (s : List ℕ) (r : Outcome) : Type 0 where
   -- every field, past the counts too; a refused chart's tables are the empty ones, and a refusal is document 01's two numbers
   pub whole : r ≡ outcomeOf (completed s)
   pub refused : (number second : ℕ) → completed s ≡ refusal number second → numbersOf (r .answer) ≡ numbers number second
-  pub laws : (board : Board) → chart s ≡ accepted board → CompletedLaws s (givenGraph board) (complete (givenGraph board))
+  pub laws : (board : Board) → chart Strict s ≡ accepted board → CompletedLaws s (givenGraph board) (complete (givenGraph board))

@@ -1,9 +1,10 @@
--- Document 01, module 2: edge completion.
+-- Document 01, module 2: edge completion. An end whose target isn't a node of the graph is passed over.
 -- Assumes nothing.
 use Prim.Native.Nat.{ℕ, suc}
 use mathlib.Core.Option.{none, some}
 use mathlib.Core.Bool.{cond}
 use mathlib.Core.List.{List, [], _∷_, _++_}
+use lib.Dec.{ltb}
 use lib.ListN.{set, length}
 use Rattle.laws.specs.Each.{each}
 use Rattle.laws.specs.Lists.{one}
@@ -18,7 +19,7 @@ gainSource g p i q =
 -- the sinks of p, the first of them number i
 abbrev pub completeSinks : Graph → ℕ → ℕ → List Edge → Graph
 completeSinks g p i [] = g
-completeSinks g p i (e ∷ es) = completeSinks (gainSource g p i (e .to)) p (suc i) es
+completeSinks g p i (e ∷ es) = completeSinks (cond (ltb (e .to) (length g)) (gainSource g p i (e .to)) g) p (suc i) es
 
 -- the edge with another mark
 abbrev pub marked : ℕ → Edge → Edge
@@ -34,7 +35,7 @@ gainSink g p j e =
 -- the sources of p, the first of them number j
 abbrev pub completeSources : Graph → ℕ → ℕ → List Edge → Graph
 completeSources g p j [] = g
-completeSources g p j (e ∷ es) = completeSources (gainSink g p j e) p (suc j) es
+completeSources g p j (e ∷ es) = completeSources (cond (ltb (e .to) (length g)) (gainSink g p j e) g) p (suc j) es
 
 -- node p: its sinks, then the sources that it has by then
 abbrev pub completeNode : Graph → ℕ → Graph

@@ -1,5 +1,6 @@
 -- A graph is the list of its nodes, by number; a node has its sources, its lines and its sinks, each in order.
--- A text is a part of the chart (where it starts, its length); an inserted node's line is the Debug text of a node number.
+-- A text is a part of the chart (where it starts, its length); a cut's box shows the Debug text of a node number, and the
+-- box of a lead to a part taken out the Debug text of its target and `(invalid)`.
 -- Assumes nothing.
 use Prim.Native.Nat.{ℕ}
 use mathlib.Core.Option.{Option, none, some}
@@ -10,10 +11,12 @@ use lib.ListN.{getD, set, length}
 use Rattle.chart.specs.Chart.{Part, End, Board}
 use Rattle.chart.specs.Chart.{Node as GivenNode}
 
--- 'A pointer's Debug text is `#` and the decimal number': a line of the chart, or the Debug text of a node
+-- 'A pointer's Debug text is `#` and the decimal number': a line of the chart, the Debug text of a node, or
+-- 'the target's Debug text and `(invalid)`'
 pub data Line : Type 0 where
   given : Part → Line
   number : ℕ → Line
+  invalid : ℕ → Line
 
 -- an end of an edge: the node at the other end, the number of the sink there that a source belongs to, if it is known, and a text
 -- (a sink has no mark)

@@ -1,13 +1,14 @@
 -- What `graph` answers: the tables of a graph, every field of them.
 -- Assumes nothing.
-use Prim.Native.Nat.{ℕ, suc}
+use Prim.Native.Nat.{ℕ, suc, _+_, _<_}
 use mathlib.Core.Path.{_≡_}
 use mathlib.Core.Option.{Option, none, some}
 use mathlib.Core.List.{List, [], _∷_, map}
-use lib.ListN.{length}
+use lib.ListN.{length, getD}
 use Rattle.laws.specs.Lists.{flat, padded}
 use Rattle.chart.specs.declared.Line.{Line as LineItem}
 use Rattle.chart.specs.declared.Answer.the-variants.{Ready, Refused}
+use Rattle.chart.specs.declared.Setting.{Setting}
 use Rattle.chart.specs.Chart.{Part, Board, ready as accepted, chart}
 use Rattle.chart.specs.Tables.{noLine, lineOf}
 use Rattle.chart.specs.Read.{numbers, numbersOf}
@@ -15,7 +16,7 @@ use Rattle.graph.specs.declared.Item.{Item}
 use Rattle.graph.specs.declared.Table.{Table}
 use Rattle.graph.specs.declared.Tables.{Tables}
 use Rattle.graph.specs.declared.Outcome.{Outcome}
-use Rattle.graph.specs.Graph.{Line, given, number, Edge, Node, Graph}
+use Rattle.graph.specs.Graph.{Line, given, number, invalid, Edge, Node, Graph}
 use Rattle.graph.specs.Graphed.{Dag, Graphed, ready, refusal, graphed}
 use Rattle.graph.specs.Laws.{Laws, Walks}
 
@@ -42,15 +43,17 @@ abbrev pub textsIn : List Line → List Part
 textsIn [] = []
 textsIn (given t ∷ ls) = t ∷ textsIn ls
 textsIn (number q ∷ ls) = textsIn ls
+textsIn (invalid t ∷ ls) = textsIn ls
 
 abbrev pub textsFrom : ℕ → Graph → List LineItem
 textsFrom = flat lineOf (λ (x : Node). textsIn (x .lines))
 
--- the number that a line names, 255 where none does
+-- the number that a line is held by: `#q` is q, `#t(invalid)` is 256 + t; 512 where there is no such line
 abbrev pub nameOf : List Line → ℕ
-nameOf [] = 255
+nameOf [] = 512
 nameOf (given t ∷ ls) = nameOf ls
 nameOf (number q ∷ ls) = q
+nameOf (invalid t ∷ ls) = 256 + t
 
 abbrev pub namesOf : Graph → List ℕ
 namesOf g = map (λ (x : Node). nameOf (x .lines)) g
@@ -67,7 +70,7 @@ tablesOf d =
     record {
       n = length (d .graph);
       cuts = d .cuts;
-      names = padded 48 255 (namesOf (d .graph));
+      names = padded 48 512 (namesOf (d .graph));
       lines = record { items = padded 128 noLine (textsFrom 0 (d .graph)); count = length (textsFrom 0 (d .graph)) };
       sources = tableOf (sourcesFrom 0 (d .graph));
       sinks = tableOf (sinksFrom 0 (d .graph));
@@ -79,12 +82,14 @@ outcomeOf (ready d) = record { answer = Ready; graph = tablesOf d }
 outcomeOf (refusal a b) = record { answer = Refused a b; graph = tablesOf (record { graph = []; cuts = 0 }) }
 
 -- ---- the promise
--- r is the graph of the chart s
-pub record IsGraph (s : List ℕ) (r : Outcome) : Type 0 where
+-- r is the graph of the chart s in the setting w
+pub record IsGraph (w : Setting) (s : List ℕ) (r : Outcome) : Type 0 where
   -- every field, past the counts too; a refused chart's tables are the empty ones, and a refusal is document 01's two numbers
-  pub whole : r ≡ outcomeOf (graphed s)
-  pub refused : (number second : ℕ) → graphed s ≡ refusal number second → numbersOf (r .answer) ≡ numbers number second
+  pub whole : r ≡ outcomeOf (graphed w s)
+  pub refused : (number second : ℕ) → graphed w s ≡ refusal number second → numbersOf (r .answer) ≡ numbers number second
   -- the laws of the graph that is drawn
-  pub laws : (d : Dag) → graphed s ≡ ready d → Laws s d
+  pub laws : (d : Dag) → graphed w s ≡ ready d → Laws w s d
   -- the walks of every accepted board, also of one that 13 refuses
-  pub walks : (board : Board) → chart s ≡ accepted board → Walks board
+  pub walks : (board : Board) → chart w s ≡ accepted board → Walks board
+  -- the chart is made of bytes, so each name is one that a box can have
+  pub bytes : (i : ℕ) → getD s i 0 < 256

@@ -7,7 +7,7 @@ ghost use lib.Dec.{eqb};
 ghost use lib.ListN.{length, getD, set, take};
 ghost use Rattle.graph.specs.Graph.{hasMarked, leadsTo};
 ghost use Rattle.laws.specs.Lists.{one};
-ghost use Rattle.graph.specs.code.Tables.{itemsOf, owned, gained, markItem, Sunk, Linked, SinkGained, Fit, SinksDone, SourcesDone, Charted, Completed};
+ghost use Rattle.graph.specs.code.Tables.{itemsOf, owned, gainedIn, markItem, Sunk, Owned, SinkGained, Fit, SinksDone, SourcesDone, Charted, Completed};
 ghost use Rattle.graph.specs.Outcome.{noItem};
 use crate::Item;
 use crate::Table;
@@ -37,12 +37,15 @@ fn has_marked(t: Table, q: u8, p: u8, i: u8) -> bool
     false
 }
 
-// The sources, where sink i of p leads to q.
-fn gain_source(t: Table, p: u8, i: u8, q: u8) -> Table
+// The sources, where sink i of p leads to q. A sink that leads to none of the n nodes is passed over.
+fn gain_source(t: Table, n: usize, p: u8, i: u8, q: u8) -> Table
     requires { ⌜ t .count < 88 ⌝ }
     requires { ⌜ i < 88 ⌝ }
-    ensures { λ r. ⌜ (itemsOf r ≡ gained (itemsOf t) p i q) × (r .count ≤ t .count + 1) × (hasMarked (owned q (itemsOf t)) p i ≡ true → r .count ≡ t .count) ⌝ }
+    ensures { λ r. ⌜ (itemsOf r ≡ gainedIn n (itemsOf t) p i q) × (r .count ≤ t .count + 1) × (hasMarked (owned q (itemsOf t)) p i ≡ true → r .count ≡ t .count) ⌝ }
 {
+    if n <= q as usize {
+        return t;
+    }
     if has_marked(t, q, p, i) {
         return t;
     }
@@ -65,6 +68,7 @@ fn complete_sinks(t: Tables, p: u8, given: usize) -> Tables
     requires { ⌜ t .sources .count + length (owned p (take given (itemsOf (t .sinks)))) ≤ 64 ⌝ }
     ensures { λ r. ⌜ SinksDone given t p r ⌝ }
 {
+    let n = t.n;
     let sinks = t.sinks;
     let mut sources = t.sources;
     let mut i: u8 = 0;
@@ -73,7 +77,7 @@ fn complete_sinks(t: Tables, p: u8, given: usize) -> Tables
         let e = sinks.items[k];
         k += 1;
         if e.owner == p {
-            sources = gain_source(sources, p, i, e.to);
+            sources = gain_source(sources, n, p, i, e.to);
             i += 1;
         }
     }
@@ -135,9 +139,10 @@ fn marked(t: Table, k: usize, m: u8) -> Table
     next
 }
 
-// Source j of p, record k: where its node has no sink to p, it gains one, and the source's mark is that sink's number.
+// Source j of p, record k: where its node has no sink to p, it gains one, and the source's mark is that sink's number. A source that leads to
+// no node is passed over.
 fn gain_sink(t: Tables, p: u8, j: u8, k: usize) -> Tables
-    requires { ⌜ Linked t ⌝ }
+    requires { ⌜ Owned t ⌝ }
     requires { ⌜ p < t .n ⌝ }
     requires { ⌜ Sunk (itemsOf (t .sources)) p j k ⌝ }
     requires { ⌜ t .sinks .count < 88 ⌝ }
@@ -147,6 +152,10 @@ fn gain_sink(t: Tables, p: u8, j: u8, k: usize) -> Tables
     let sinks = t.sinks;
     let e = sources.items[k];
     let q = e.to;
+    let n = t.n;
+    if n <= e.to as usize {
+        return t;
+    }
     if leads_to(sinks, q, p) {
         return t;
     }

@@ -48,7 +48,7 @@ pub fn find_sink(t: Table, c: u8, s: u8) -> Found
 }
 
 // Record k with another target.
-fn point(t: Table, k: usize, to: u8) -> Table
+pub fn point(t: Table, k: usize, to: u8) -> Table
     requires { ⌜ t .count ≤ 88 ⌝ }
     requires { ⌜ k < t .count ⌝ }
     ensures { λ r. ⌜ (itemsOf r ≡ set (itemsOf t) k (pointItem to (getD (itemsOf t) k noItem))) × (r .count ≡ t .count) ⌝ }
@@ -212,8 +212,9 @@ pub fn cut_cycles(t: Tables, cut: bool) -> Went
                 sources = cut_sources(sources, e.to, f.node, f.sink, a);
                 sinks = cut_sinks(sinks, k, e.to, a);
                 let last = n + 1;
-                names[n] = e.to;
-                names[last] = e.to;
+                let shown = e.to as u16;
+                names[n] = shown;
+                names[last] = shown;
                 seen[n] = 3;
                 seen[last] = 3;
                 n += 2;

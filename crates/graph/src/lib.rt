@@ -1,10 +1,9 @@
-// Document 01, modules 2 and 3: the graph of a chart, completed, and cut or not, as tables of records, each record with the node that owns it.
+// Document 01, modules 2 and 3, and document 02, L5: the graph of a chart, completed, joined, and cut or not, as tables of records, each record with the node that owns it.
 // A node's list is its records in table order.
 ghost use mathlib.Core.Path.{_≡_};
 ghost use Rattle.chart.specs.Chart.{chart as chartOf};
 ghost use Rattle.chart.specs.code.Filled.{boardOf};
-ghost use Rattle.graph.specs.Graph.{givenGraph};
-ghost use Rattle.graph.specs.Completion.{complete};
+ghost use Rattle.graph.specs.Joining.{uncut};
 ghost use Rattle.graph.specs.Graphed.{refusal};
 ghost use Rattle.graph.specs.Outcome.{IsGraph};
 ghost use Rattle.graph.specs.Completed.{IsCompleted};
@@ -13,9 +12,11 @@ ghost use Rattle.graph.specs.Ends.{endsIn};
 use chart::Answer;
 use chart::Board;
 use chart::Lines;
+use chart::Setting;
 
 mod completion;
 mod cutting;
+mod joining;
 mod reach;
 mod records;
 
@@ -35,12 +36,13 @@ pub struct Table {
     pub count: usize,
 }
 
-// n nodes and the cuts that made the inserted ones; for each node the number of the given node that its line names (255 for none),
+// n nodes and the cuts that made the inserted ones; for each node how its line is held: the number of the given node that it shows,
+// 256 and the target for a box of a lead to nothing, 512 for none;
 // and the given lines, the sources and the sinks of all.
 pub struct Tables {
     pub n: usize,
     pub cuts: u8,
-    pub names: [u8; 48],
+    pub names: [u16; 48],
     pub lines: Lines,
     pub sources: Table,
     pub sinks: Table,
@@ -63,14 +65,19 @@ fn refused(number: u8, second: u32) -> Outcome
     }
 }
 
-// An accepted chart's board: completed, and cut if asked, or refusal 13.
+// An accepted chart's board: completed, joined, and cut if asked, or refusal 13.
 fn drawn(board: Board, cut: bool) -> Outcome
     requires { ⌜ Held board ⌝ }
-    ensures { λ r. ⌜ IsAnswer (stage cut (complete (givenGraph (boardOf board)))) r ⌝ }
+    ensures { λ r. ⌜ IsAnswer (stage cut (uncut (boardOf board))) r ⌝ }
 {
     let given = records::begin(board);
     let whole = completion::complete(given);
-    let went = cutting::cut_cycles(whole, cut);
+    let leads = joining::count_leads(whole);
+    if 48 < whole.n + leads {
+        return refused(13, 0);
+    }
+    let fitted = joining::join(whole, leads);
+    let went = cutting::cut_cycles(fitted, cut);
     if !went.ok {
         return refused(13, 0);
     }
@@ -82,11 +89,11 @@ fn drawn(board: Board, cut: bool) -> Outcome
     }
 }
 
-// The chart read, completed, and cut if asked. (It alone calls these stages, so that they share one frame: a second caller of `read` would add its frame to the sheet's.)
-fn staged(chart: &[u8], cut: bool) -> Outcome
-    ensures { λ r. ⌜ IsAnswer (stagedOf cut (chartOf (now (chart .entry)))) r ⌝ }
+// The chart read, completed, joined, and cut if asked. (It alone calls these stages, so that they share one frame: a second caller of `read` would add its frame to the sheet's.)
+fn staged(chart: &[u8], setting: Setting, cut: bool) -> Outcome
+    ensures { λ r. ⌜ IsAnswer (stagedOf cut (chartOf setting (now (chart .entry)))) r ⌝ }
 {
-    let read = chart::read(chart);
+    let read = chart::read(chart, setting);
     let answer = read.answer;
     let board = read.board;
     match answer {
@@ -95,18 +102,18 @@ fn staged(chart: &[u8], cut: bool) -> Outcome
     }
 }
 
-// The graph of a chart, completed and cut, or the first refusal of 1 to 13.
-pub fn graph(chart: &[u8]) -> Outcome
-    ensures { λ r. ⌜ IsGraph (now (chart .entry)) r ⌝ }
+// The graph of a chart in a setting, completed, joined and cut, or the first refusal of 1 to 13.
+pub fn graph(chart: &[u8], setting: Setting) -> Outcome
+    ensures { λ r. ⌜ IsGraph setting (now (chart .entry)) r ⌝ }
 {
-    staged(chart, true)
+    staged(chart, setting, true)
 }
 
-// The graph of a chart, completed and not cut, or the first refusal of 1 to 12.
+// The graph of a chart in the strict setting, completed and not cut, or the first refusal of 1 to 12.
 pub fn completed(chart: &[u8]) -> Outcome
     ensures { λ r. ⌜ IsCompleted (now (chart .entry)) r ⌝ }
 {
-    staged(chart, false)
+    staged(chart, Setting::Strict, false)
 }
 
 // The ends of all nodes, sources or sinks, for the stages that read only where they lead: record k is node owner[k]'s and leads to

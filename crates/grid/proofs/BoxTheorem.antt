@@ -29,10 +29,10 @@ module _ (g : Graph) (first : List ℕ) (f : FirstColumns (length g) first) wher
   placed =
       columns-placed (length g) (heights (shapeOf g)) tall (shapeOf g) (shape-long g) first (first-placed (length g) (heights (shapeOf g)) first f)
 
-  -- n nodes are given, and the cuts made the rest
-  pub sheet-theorem : (n cuts : ℕ) → length g ≡ n + 2 * cuts → SheetTheorem n cuts g (sheet g cuts first)
+  -- n nodes are given, with so many leads to nothing, and the cuts made the rest
+  pub sheet-theorem : (n leads cuts : ℕ) → length g ≡ n + leads + 2 * cuts → SheetTheorem n leads cuts g (sheet g cuts first)
   unfolding sheet
-  sheet-theorem n cuts e = box-theorem n cuts (3 * length g) g (columns (shapeOf g) (heights (shapeOf g)) first) (heights (shapeOf g)) tall e placed
+  sheet-theorem n leads cuts e = box-theorem n leads cuts (3 * length g) g (columns (shapeOf g) (heights (shapeOf g)) first) (heights (shapeOf g)) tall e placed
 
   -- the sheet's columns and rows, at most: 144 and 48
   module _ (cuts : ℕ) (nodes : length g ≤ 48) where

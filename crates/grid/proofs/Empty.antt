@@ -1,4 +1,4 @@
--- Document 02, L1: a chart of no byte has the sheet and the labels of 01 00.
+-- Document 02, L1: a chart of no byte has the sheet and the labels of 01 00, in each setting.
 -- Assumes nothing.
 use Prim.Native.Nat.{ℕ}
 use mathlib.Core.Path.{_≡_, refl, ap, _∙_}
@@ -6,6 +6,7 @@ use mathlib.Core.Bool.{cond, _&&_}
 use mathlib.Core.List.{[], _∷_}
 use Rattle.laws.specs.Each.{each}
 use Rattle.laws.proofs.Tests.{pick-through}
+use Rattle.chart.specs.declared.Setting.{Setting}
 use Rattle.graph.specs.Shape.{shapeOf}
 use Rattle.graph.proofs.Empty.{empty-graph, no-node}
 use Rattle.order.specs.Chains.{columns as firstColumns}
@@ -16,13 +17,13 @@ use Rattle.grid.specs.Sheeted.{ready, refusal, within, fitted, drawn, sh
 use Rattle.grid.specs.Labelled.{refusal as unlabelled, labelOn, labelled}
 
 -- 'A chart of length 0 now means the empty sheet, the same answer as 01 00.'
-pub empty-sheet : (x y : ℕ) → sheeted [] x y ≡ sheeted (1 ∷ 0 ∷ []) x y
+pub empty-sheet : (w : Setting) (x y : ℕ) → sheeted w [] x y ≡ sheeted w (1 ∷ 0 ∷ []) x y
 unfolding sheeted
-empty-sheet x y = ap (drawn x y) empty-graph
+empty-sheet w x y = ap (drawn x y) (empty-graph w)
 
-pub empty-label : (x y k i : ℕ) → labelled [] x y k i ≡ labelled (1 ∷ 0 ∷ []) x y k i
+pub empty-label : (w : Setting) (x y k i : ℕ) → labelled w [] x y k i ≡ labelled w (1 ∷ 0 ∷ []) x y k i
 unfolding labelled
-empty-label x y k i = ap (labelOn k i) (empty-sheet x y)
+empty-label w x y k i = ap (labelOn k i) (empty-sheet w x y)
 
 -- 'An empty chart has one empty cell'; its sides are two margins
 abbrev unboxed : Sheet
@@ -33,11 +34,11 @@ unfolding each shapeOf firstColumns heights firstMoves foldFrom average columns 
 without-nodes = refl
 
 -- that sheet, or 14 by the origin
-pub no-box : (x y : ℕ) → sheeted [] x y ≡ cond (within x 256 && within y 256) (ready unboxed) (refusal 14 0)
+pub no-box : (w : Setting) (x y : ℕ) → sheeted w [] x y ≡ cond (within x 256 && within y 256) (ready unboxed) (refusal 14 0)
 unfolding sheeted
-no-box x y = ap (drawn x y) no-node ∙ ap (fitted x y) without-nodes
+no-box w x y = ap (drawn x y) (no-node w) ∙ ap (fitted x y) without-nodes
 
 -- no label is there: 15, after 14
-pub no-label : (x y k i : ℕ) → labelled [] x y k i ≡ cond (within x 256 && within y 256) (unlabelled 15 0) (unlabelled 14 0)
+pub no-label : (w : Setting) (x y k i : ℕ) → labelled w [] x y k i ≡ cond (within x 256 && within y 256) (unlabelled 15 0) (unlabelled 14 0)
 unfolding labelled
-no-label x y k i = ap (labelOn k i) (no-box x y) ∙ pick-through (labelOn k i) (within x 256 && within y 256) (ready unboxed) (refusal 14 0)
+no-label w x y k i = ap (labelOn k i) (no-box w x y) ∙ pick-through (labelOn k i) (within x 256 && within y 256) (ready unboxed) (refusal 14 0)

@@ -5,17 +5,19 @@ use native.Mathlib.Omega.{arith}
 use native.Mathlib.Nat.{zero-add}
 use mathlib.Core.Path.{_≡_, refl, ap, sym, subst, _∙_}
 use mathlib.Core.Bool.{Bool, true, false, cond}
-use mathlib.Core.List.{List, [], _∷_, _++_, map, map-append, map-map}
+use mathlib.Core.List.{List, [], _∷_, _++_, map, append-nil, map-append, map-map}
 use lib.Dec.{eqb, ltb}
 use lib.ListN.{length, getD, drop, replicate, length-map, length-drop}
 use lib.Seq.{getD-drop}
 use Rattle.laws.specs.Lists.{one, keep, tabulate}
 use Rattle.laws.proofs.Lists.{getD-tabulate, tabulate-list, map-tabulate}
 use Rattle.chart.specs.declared.Answer.the-variants.{Ready}
+use Rattle.chart.specs.declared.Setting.{Setting}
 use Rattle.chart.specs.Chart.{Part, Board}
-use Rattle.graph.specs.Graph.{Line, given, number, Edge, Node, Graph, noText, bare, givenNode, givenGraph, nodeAt}
+use Rattle.graph.specs.Graph.{Line, given, number, invalid, Edge, Node, Graph, noText, bare, givenNode, givenGraph, nodeAt}
 use Rattle.graph.specs.Shape.{shapeOf}
-use Rattle.graph.specs.Graphed.{Dag, ready as cut, graphed}
+use Rattle.graph.specs.Joining.{leadsOf}
+use Rattle.graph.specs.Graphed.{Dag, ready as cut, graphed, leadsIn}
 use Rattle.graph.specs.Laws.{textsAt, Begins, Named, Laws}
 use Rattle.graph.proofs.AimLaws.{all-in}
 use Rattle.chart.specs.Read.{numbersOf}
@@ -41,7 +43,7 @@ use Rattle.grid.proofs.ListLaws.{largest-below}
 use Rattle.grid.proofs.HeightLaws.{heights-long, depth-enough, reached-rows}
 use Rattle.grid.proofs.BoxTheorem.{placed}
 use Rattle.grid.proofs.TextLaws.{lengthOf, length-kept, Blank, blank}
-use Rattle.grid.proofs.Sheets.{firsts-of, never-14, Made}
+use Rattle.grid.proofs.Sheets.{leads-are, firsts-of, never-14, Made}
 use Rattle.grid.proofs.SoundLaws.{Drawing, drawing, Held, held, boxes-are, sheet-sound, Own, own}
 
 -- ---- a box's size, from the characters of the texts on its ends and its lines
@@ -107,7 +109,7 @@ written-none (e ∷ es) h =
     rw z (written-none es (omega arith))
 
 -- ---- a node of the cut graph
-module _ (s : List ℕ) (d : Dag) (laws : Laws s d) where
+module _ (v : Setting) (s : List ℕ) (d : Dag) (laws : Laws v s d) where
   abbrev ps : Board
   ps = laws .board
 
@@ -137,7 +139,7 @@ module _ (s : List ℕ) (d : Dag) (laws : Laws s d) where
     labels-kept =
         rw (written-kept (old .sources) (new .sources) (laws .texts k h .sources), written-kept (old .sinks) (new .sinks) (laws .texts k h .sinks), laws .lines k h)
 
-  -- a node that a cut inserted
+  -- a node that no chart gives: a lead's box, or one that a cut inserted
   module _ (k : ℕ) (h : length ps ≤ k) (l : k < length g) where
     no-characters : edgeLength (nodeAt g k) ≡ 0
     no-characters =
@@ -145,14 +147,23 @@ module _ (s : List ℕ) (d : Dag) (laws : Laws s d) where
         let i : length (givenGraph ps) + (k - length (givenGraph ps)) ≡ k = omega arith in
         subst (λ (j : ℕ). edgeLength (nodeAt g j) ≡ 0) i
         (subst (λ (x : Node). edgeLength x ≡ 0) (getD-drop (length (givenGraph ps)) g (k - length (givenGraph ps)) bare)
-        (all-in Blank (drop (length (givenGraph ps)) g) (k - length (givenGraph ps)) bare (omega (arith, length-drop (length (givenGraph ps)) g)) (blank s d laws)))
+        (all-in Blank (drop (length (givenGraph ps)) g) (k - length (givenGraph ps)) bare (omega (arith, length-drop (length (givenGraph ps)) g)) (blank v s d laws)))
 
-    labels-new : (q : ℕ) × (q < length ps) × (labelsFor (nodeAt g k) ≡ one (number q))
-    labels-new =
-        let n : Named (length ps) (nodeAt g k .lines) = laws .inserted k h l in
+    lines-alone : labelsFor (nodeAt g k) ≡ nodeAt g k .lines
+    lines-alone =
         let a : writtenLines (textsAt (nodeAt g k .sources)) ≡ [] = written-none (nodeAt g k .sources) (omega (arith, no-characters)) in
         let b : writtenLines (textsAt (nodeAt g k .sinks)) ≡ [] = written-none (nodeAt g k .sinks) (omega (arith, no-characters)) in
-        (n .q, n .inside, rw (a, b, n .line))
+        rw (a, b) (append-nil (nodeAt g k .lines))
+
+    labels-lead : k < length ps + leadsOf ps → (t : ℕ) × (length ps ≤ t) × (labelsFor (nodeAt g k) ≡ one (invalid t))
+    labels-lead m =
+        let b = laws .joined k h m in
+        (b .target, b .past, lines-alone ∙ ap (λ (x : Node). x .lines) (laws .kept k h m) ∙ b .line)
+
+    labels-new : length ps + leadsOf ps ≤ k → (q : ℕ) × (q < length ps) × (labelsFor (nodeAt g k) ≡ one (number q))
+    labels-new m =
+        let n : Named (length ps) (nodeAt g k .lines) = laws .inserted k m l in
+        (n .q, n .inside, lines-alone ∙ n .line)
 
 -- ---- the sheet of a cut graph
 module _ (g : Graph) (cuts : ℕ) (cols rows : List ℕ) (wide : length cols ≡ length g) (tall : length rows ≡ length g) where
@@ -180,14 +191,14 @@ record Told (d : Dag) (sh : Sheet) : Type 0 where
   few-columns : 0 < length (d .graph) → sh .columns ≤ 3 * length (d .graph)
   lines : (k : ℕ) → k < length (d .graph) → linesIn sh k ≡ labelsFor (nodeAt (d .graph) k)
 
-told : (s : List ℕ) (d : Dag) → graphed s ≡ cut d → Told d (sheetOfDag d)
+told : (v : Setting) (s : List ℕ) (d : Dag) → graphed v s ≡ cut d → Told d (sheetOfDag d)
 unfolding sheetOfDag sheet sheetOf
-told s d e =
+told v s d e =
     let g : Graph = d .graph in
     let first : List ℕ = firstColumns (shapeOf g) in
     let rs : List ℕ = heights (shapeOf g) in
     let cs : List ℕ = columns (shapeOf g) rs first in
-    let f : FirstColumns (length g) first = firsts-of g (graph-laws s d e .aimed) in
+    let f : FirstColumns (length g) first = firsts-of g (graph-laws v s d e .aimed) in
     let wide : length cs ≡ length g = placed g first f .long in
     let tall : length rs ≡ length g = heights-long (shapeOf g) ∙ shape-long g in
     record {
@@ -208,21 +219,21 @@ unfolding recordOf
 record-rows sh x y = refl
 
 -- ---- of every chart, at every origin
-module _ (s : List ℕ) (x y : ℕ) (sh : Sheet) (e : sheeted s x y ≡ ready sh) (r : SheetRecord) (is : r ≡ recordOf sh x y)
-    (theorem : (d : Dag) → graphed s ≡ cut d → BoxTheorem (getD s 1 0) (d .cuts) (d .graph) r) where
-  d : Drawing s x y sh
-  d = drawing s x y sh e
+module _ (v : Setting) (s : List ℕ) (x y : ℕ) (sh : Sheet) (e : sheeted v s x y ≡ ready sh) (r : SheetRecord) (is : r ≡ recordOf sh x y)
+    (theorem : (d : Dag) → graphed v s ≡ cut d → BoxTheorem (getD s 1 0) (leadsIn v s) (d .cuts) (d .graph) r) where
+  d : Drawing v s x y sh
+  d = drawing v s x y sh e
 
-  laws : Laws s (d .dag)
-  laws = graph-laws s (d .dag) (d .walked)
+  laws : Laws v s (d .dag)
+  laws = graph-laws v s (d .dag) (d .walked)
 
   h : Held (d .dag) sh
-  h = subst (Held (d .dag)) (sym (d .is)) (held s (d .dag) (d .walked))
+  h = subst (Held (d .dag)) (sym (d .is)) (held v s (d .dag) (d .walked))
 
   t : Told (d .dag) sh
-  t = subst (Told (d .dag)) (sym (d .is)) (told s (d .dag) (d .walked))
+  t = subst (Told (d .dag)) (sym (d .is)) (told v s (d .dag) (d .walked))
 
-  b : BoxTheorem (getD s 1 0) (d .dag .cuts) (d .dag .graph) r
+  b : BoxTheorem (getD s 1 0) (leadsIn v s) (d .dag .cuts) (d .dag .graph) r
   b = theorem (d .dag) (d .walked)
 
   boxes-same : boxesOf r ≡ map boxRecord (sh .boxes)
@@ -234,14 +245,17 @@ module _ (s : List ℕ) (x y : ℕ) (sh : Sheet) (e : sheeted s x y ≡ ready sh
   in-count : (k : ℕ) → k < length (laws .board) → k < r .count
   in-count k l = omega (arith, laws .nodes, b .one-each)
 
-  laid-sheet : LaidOut s x y r
+  leads : leadsOf (laws .board) ≡ leadsIn v s
+  leads = leads-are v s (d .dag) laws
+
+  laid-sheet : LaidOut v s x y r
   laid-sheet =
       record {
         dag = d .dag;
         walked = d .walked;
         boxes = b;
         at-most = omega (arith, b .one-each, laws .boxes);
-        sound = ap soundOf is ∙ sheet-sound s x y sh e;
+        sound = ap soundOf is ∙ sheet-sound v s x y sh e;
         few-columns = λ l. omega (arith, ap (λ (u : SheetRecord). u .columns) is, record-columns sh x y, b .one-each, t .few-columns (omega (arith, b .one-each)));
         columns =
             ap (λ (u : SheetRecord). u .columns) is ∙ record-columns sh x y ∙ t .columns
@@ -255,22 +269,26 @@ module _ (s : List ℕ) (x y : ℕ) (sh : Sheet) (e : sheeted s x y ≡ ready sh
         sheet = sh;
         laid = e;
         is = is;
-        given-width = λ k l. b .widths k (in-count k l) ∙ width-kept s (d .dag) laws k l;
-        given-height = λ k l. b .heights k (in-count k l) ∙ height-kept s (d .dag) laws k l;
-        given-labels = λ k l. t .lines k (in-graph k l) ∙ labels-kept s (d .dag) laws k l;
+        given-width = λ k l. b .widths k (in-count k l) ∙ width-kept v s (d .dag) laws k l;
+        given-height = λ k l. b .heights k (in-count k l) ∙ height-kept v s (d .dag) laws k l;
+        given-labels = λ k l. t .lines k (in-graph k l) ∙ labels-kept v s (d .dag) laws k l;
+        lead-labels = λ k l m.
+            let i : k < length (d .dag .graph) = omega (arith, laws .nodes, leads) in
+            let z = labels-lead v s (d .dag) laws k l i (omega (arith, leads)) in
+            (z .0, z .1, t .lines k i ∙ z .2);
         inserted-labels = λ k l m.
             let i : k < length (d .dag .graph) = omega (arith, b .one-each) in
-            let z = labels-new s (d .dag) laws k l i in
+            let z = labels-new v s (d .dag) laws k (omega arith) i (omega (arith, leads)) in
             (z .0, z .1, t .lines k i ∙ z .2);
       }
 
 -- what `sheet` promises
-pub is-sheet : (s : List ℕ) (x y : ℕ) (r : Outcome) → Made s x y r → IsSheet s x y r
-is-sheet s x y r m =
+pub is-sheet : (v : Setting) (s : List ℕ) (x y : ℕ) (r : Outcome) → Made v s x y r → IsSheet v s x y r
+is-sheet v s x y r m =
     record {
       whole = m .whole;
       refused = λ a b e. ap (λ (u : Outcome). numbersOf (u .answer)) (m .whole ∙ ap (outcomeOf x y) e);
-      laid = λ q. let o : Own s x y (r .sheet) = own s x y r (m .whole) q in laid-sheet s x y (o .sheet) (o .laid) (r .sheet) (o .is) (λ d e. m .boxes d e q);
-      at-origin = λ d e p q. ap (λ (u : Outcome). u .answer) (m .whole) ∙ rw (p, q, never-14 s d e);
+      laid = λ q. let o : Own v s x y (r .sheet) = own v s x y r (m .whole) q in laid-sheet v s x y (o .sheet) (o .laid) (r .sheet) (o .is) (λ d e. m .boxes d e q);
+      at-origin = λ d e p q. ap (λ (u : Outcome). u .answer) (m .whole) ∙ rw (p, q, never-14 v s d e);
       walks = λ ps e. record { cutting = board-walks ps; heights = depth-enough (shapeCut ps); rows = λ p l. reached-rows (shapeCut ps) p l };
     }

@@ -58,7 +58,7 @@ module _ (gap : ℕ) (places sizes : List ℕ) where
         omega (arith, begins-past (at places i) (at places j) l, extent-ge places sizes i (at places i) (omega arith) (omega arith) refl)
 
 -- the graph with its columns and rows
-module _ (n cuts b : ℕ) (g : Graph) (cols rows : List ℕ) (tall : length rows ≡ length g) (count : length g ≡ n + 2 * cuts) (p : Placed (length g) b rows cols) where
+module _ (n leads cuts b : ℕ) (g : Graph) (cols rows : List ℕ) (tall : length rows ≡ length g) (count : length g ≡ n + leads + 2 * cuts) (p : Placed (length g) b rows cols) where
   abbrev s : Sheet
   s = sheetOf g cuts cols rows
 
@@ -160,7 +160,7 @@ module _ (n cuts b : ℕ) (g : Graph) (cols rows : List ℕ) (tall : length rows
       go (inr a) (inr d) (inr e) (inl f) = inr (inr (down j i hj hi f))
       go (inr a) (inr d) (inr e) (inr f) = absurd (o (p .apart i j hi hj (omega arith) (omega arith)))
 
-  pub box-theorem : SheetTheorem n cuts g (sheetOf g cuts cols rows)
+  pub box-theorem : SheetTheorem n leads cuts g (sheetOf g cuts cols rows)
   unfolding sheetOf
   box-theorem =
       record {

@@ -1,20 +1,20 @@
 -- Laws of the labels.
 -- Assumes nothing.
-use Prim.Native.Nat.{ℕ, zero, suc, _+_, _-_, _*_, _/_, _≤_, _<_}
+use Prim.Native.Nat.{ℕ, zero, suc, _+_, _-_, _*_, _/_, max, _≤_, _<_}
 use native.Mathlib.Omega.{arith}
 use mathlib.Core.Path.{_≡_, refl, ap, sym, _∙_}
 use mathlib.Core.Bool.{Bool, true, false, cond}
 use mathlib.Core.List.{List, [], _∷_, _++_, map, append-assoc}
 use lib.Dec.{ltb}
 use lib.ListN.{length, getD, List·getD-eq-default}
-use borrow.Author.Tests.{ltb-true, ltb-false}
+use borrow.Author.Tests.{ne-eqb}
 use native.Mathlib.Nat.{zero-add}
 use Rattle.laws.specs.Lists.{tabulate, padded}
 use Rattle.laws.proofs.Lists.{length-tabulate, getD-tabulate, map-tabulate}
 use Rattle.chart.specs.code.Filled.{ownedLines, linesOf as textsOf′}
 use Rattle.graph.specs.declared.Tables.{Tables}
-use Rattle.graph.specs.Graph.{Line, given, number, Edge, Node, Graph, nodeAt}
-use Rattle.graph.specs.code.Tables.{owned, itemsOf, numberLine, linesAt, graphOf}
+use Rattle.graph.specs.Graph.{Line, given, number, invalid, Edge, Node, Graph, nodeAt}
+use Rattle.graph.specs.code.Tables.{owned, itemsOf, heldLine, numberLine, linesAt, graphOf}
 use Rattle.grid.specs.declared.LabelPlace.{LabelPlace}
 use Rattle.grid.specs.declared.label.Seek.{Seek}
 use Rattle.grid.specs.declared.render_node.RenderNode.{RenderNode}
@@ -25,8 +25,8 @@ use Rattle.grid.specs.Curves.{noOutputs, boxRecord, recordOf}
 use Rattle.grid.specs.declared.BoxRecord.{BoxRecord}
 use Rattle.grid.proofs.Arrays.{filled-at}
 use Rattle.grid.specs.Labels.{noLabel, placeFor, placeOf, labelAt, labelOf}
-use Rattle.grid.specs.code.Sited.{notHere, seek, nodeLabel, labelFrom}
-use Rattle.grid.specs.code.Rendered.{renderOf}
+use Rattle.grid.specs.code.Sited.{fixedNumber, notHere, seek, nodeLabel}
+use Rattle.grid.specs.code.Rendered.{centerOf, renderOf}
 use Rattle.grid.proofs.NodeLaws.{node-is}
 
 pub seek-none : (i : ℕ) → seek [] i ≡ notHere i
@@ -42,10 +42,35 @@ seek-next t ts (suc i) n =
     let d : suc i - suc (length ts) ≡ i - length ts = omega arith in
     rw (e, d)
 
+-- the label of the line that is held by the number m
+abbrev pub heldText : ℕ → ℕ → ℕ → Text
+heldText x wy m = record { x = x; y = wy + 512 - 192; size = 464; width = 256 * lineLength (heldLine m); line = heldLine m }
+
+pub held-place : (x wy m : ℕ) → (m ≡ 512 → ⊥) →
+    record { found = true; x = x; y = wy + 512 - 192; size = 464; width = 256 * centerOf (numberLine m) .longest; fixed = true; at = 0; len = 0; number = fixedNumber m } ≡ placeOf (heldText x wy m)
+held-place x wy m h = rw (ne-eqb m 512 h) (go (ltb m 256))
+  where
+    go : (b : Bool) →
+        record {
+          found = true;
+          x = x;
+          y = wy + 512 - 192;
+          size = 464;
+          width = 256 * max (lineLength (cond b (number m) (invalid (m - 256)))) 0;
+          fixed = true;
+          at = 0;
+          len = 0;
+          number = cond b m (m - 256 + 31);
+        }
+        ≡ placeFor x (wy + 512 - 192) 464 (256 * lineLength (cond b (number m) (invalid (m - 256)))) (cond b (number m) (invalid (m - 256)))
+    go true = let z : max (lineLength (number m)) 0 ≡ lineLength (number m) = omega arith in rw z
+    go false = let z : max (lineLength (invalid (m - 256))) 0 ≡ lineLength (invalid (m - 256)) = omega arith in rw z
+
 -- ---- one list after another
 is-found : (x y size width : ℕ) (l : Line) → placeFor x y size width l .found ≡ true
 is-found x y size width (given p) = refl
 is-found x y size width (number q) = refl
+is-found x y size width (invalid t) = refl
 
 pub join-found : (a b : List Text) (i : ℕ) → labelAt a i .found ≡ true → labelAt (a ++ b) i ≡ labelAt a i
 join-found [] b i e = let z : _≡_ {A = ℕ} 0 1 = cc in absurd (omega arith)
@@ -164,24 +189,22 @@ module _ (g : Tables) (p : ℕ) (h : p < g .n) (x y i : ℕ) (v : RenderNode) (i
         ap (λ (s : Seek). s .place) e
         ∙ sym (after-first ∙ join-left (mid n x y) (low n x y) j (sym (ap (λ (s : Seek). s .place .found) second-is) ∙ f))
 
--- the label of the sheet, by the places of its record
-pub label-sheet : (g : Graph) (cuts : ℕ) (cols rows : List ℕ) (x y : ℕ) → length g ≤ 48 → (k i : ℕ) →
-    labelFrom g (length g) (recordOf (sheetOf g cuts cols rows) x y) k i ≡ labelOf (sheetOf g cuts cols rows) k i
+-- the label of a box of the sheet, by the box's place in the record
+pub label-sheet : (g : Graph) (cuts : ℕ) (cols rows : List ℕ) (x y : ℕ) → length g ≤ 48 → (k i : ℕ) → k < length g →
+    nodeLabel (nodeAt g k) (getD (recordOf (sheetOf g cuts cols rows) x y .boxes) k noBox .x) (getD (recordOf (sheetOf g cuts cols rows) x y .boxes) k noBox .y) i
+    ≡ labelOf (sheetOf g cuts cols rows) k i
 unfolding recordOf sheetOf
-label-sheet g cuts cols rows x y few k i = go (ltb k (length g)) refl
-  where
-    go : (b : Bool) → ltb k (length g) ≡ b →
-        cond b (nodeLabel (nodeAt g k) (getD (padded 48 noBox (map boxRecord (tabulate (boxOf g cols rows) 0 (length g)))) k noBox .x) (getD (padded 48 noBox (map boxRecord (tabulate (boxOf g cols rows) 0 (length g)))) k noBox .y) i) noLabel
-        ≡ labelAt (getD (tabulate (boxOf g cols rows) 0 (length g)) k noOutputs .texts) i
-    go true e =
-        let h : k < length g = ltb-true k (length g) e in
-        let b : getD (padded 48 noBox (map boxRecord (tabulate (boxOf g cols rows) 0 (length g)))) k noBox ≡ boxRecord (boxOf g cols rows k) =
-        ap (λ (l : List BoxRecord). getD (padded 48 noBox l) k noBox) (map-tabulate boxRecord (boxOf g cols rows) 0 (length g))
-        ∙ filled-at (λ k. boxRecord (boxOf g cols rows k)) 48 noBox (length g) k few h in
-        let d : getD (tabulate (boxOf g cols rows) 0 (length g)) k noOutputs ≡ boxOf g cols rows k =
-        getD-tabulate (boxOf g cols rows) 0 (length g) k noOutputs h ∙ ap (boxOf g cols rows) (zero-add k) in
-        rw (b, d)
-    go false e =
-        let h : length g ≤ k = ltb-false k (length g) e in
-        let l : length (tabulate (boxOf g cols rows) 0 (length g)) ≤ k = omega (arith, length-tabulate (boxOf g cols rows) 0 (length g)) in
-        rw (List·getD-eq-default (tabulate (boxOf g cols rows) 0 (length g)) noOutputs l)
+label-sheet g cuts cols rows x y few k i h =
+    let b : getD (padded 48 noBox (map boxRecord (tabulate (boxOf g cols rows) 0 (length g)))) k noBox ≡ boxRecord (boxOf g cols rows k) =
+    ap (λ (l : List BoxRecord). getD (padded 48 noBox l) k noBox) (map-tabulate boxRecord (boxOf g cols rows) 0 (length g))
+    ∙ filled-at (λ k. boxRecord (boxOf g cols rows k)) 48 noBox (length g) k few h in
+    let d : getD (tabulate (boxOf g cols rows) 0 (length g)) k noOutputs ≡ boxOf g cols rows k =
+    getD-tabulate (boxOf g cols rows) 0 (length g) k noOutputs h ∙ ap (boxOf g cols rows) (zero-add k) in
+    rw (b, d)
+
+-- past the boxes there is none
+pub label-past : (g : Graph) (cuts : ℕ) (cols rows : List ℕ) (k i : ℕ) → length g ≤ k → labelOf (sheetOf g cuts cols rows) k i ≡ noLabel
+unfolding sheetOf
+label-past g cuts cols rows k i h =
+    let l : length (tabulate (boxOf g cols rows) 0 (length g)) ≤ k = omega (arith, length-tabulate (boxOf g cols rows) 0 (length g)) in
+    rw (List·getD-eq-default (tabulate (boxOf g cols rows) 0 (length g)) noOutputs l)

@@ -1,4 +1,4 @@
--- A label from the chart's bytes: what the code finds is the definition's, its text lies within the chart or is one of the 32 fixed texts, and its width counts
+-- A label from the chart's bytes: what the code finds is the definition's, its text lies within the chart or is one of the 287 fixed texts, and its width counts
 -- the text's characters.
 -- Assumes nothing.
 use Prim.Native.Nat.{ℕ, zero, suc, _+_, _-_, _*_, _/_, _≤_, _<_}
@@ -9,12 +9,13 @@ use mathlib.Core.List.{List, [], _∷_, _++_, map}
 use lib.Dec.{ltb}
 use lib.ListN.{length, getD, drop, replicate, length-drop, length-map, List·getD-eq-default}
 use lib.Seq.{getD-drop}
-use borrow.Author.Tests.{ltb-true, ltb-false, leb-true}
+use borrow.Author.Tests.{ltb-true, ltb-false, lt-ltb, le-ltb, leb-true}
 use native.Mathlib.Nat.{zero-add}
-use Rattle.laws.specs.Lists.{All, tabulate, padded}
-use Rattle.laws.proofs.Lists.{all-join, all-made, length-padded, getD-padded, getD-tabulate, length-tabulate}
+use Rattle.laws.specs.Lists.{All, tabulate}
+use Rattle.laws.proofs.Lists.{all-join, all-made, getD-tabulate, length-tabulate}
 use Rattle.chart.specs.declared.Answer.{Answer}
 use Rattle.chart.specs.declared.Answer.the-variants.{Ready, Refused}
+use Rattle.chart.specs.declared.Setting.{Setting}
 use Rattle.chart.specs.Chart.{Part, End, Board}
 use Rattle.chart.specs.Chart.{Node as GivenNode}
 use Rattle.chart.specs.Text.{Texted, empty, charactersIn, ending, textOf}
@@ -22,14 +23,15 @@ use Rattle.chart.specs.Accepted.{Fitting, Aimed, Formed, Accepted}
 use Rattle.chart.proofs.Accepts.{accepted}
 use Rattle.graph.specs.declared.Tables.{Tables}
 use Rattle.graph.specs.declared.Outcome.{Outcome as Graphing}
-use Rattle.graph.specs.Graph.{Line, given, number, Edge, Node, Graph, noText, bare, unmarked, givenNode, givenGraph, nodeAt}
-use Rattle.graph.specs.Graphed.{Dag, Graphed, ready as cut, refusal as uncut, graphed}
+use Rattle.graph.specs.Graph.{Line, given, number, invalid, Edge, Node, Graph, noText, bare, unmarked, givenNode, givenGraph, nodeAt}
+use Rattle.graph.specs.Graphed.{Dag, Graphed, ready as cut, refusal as uncut, graphed, leadsIn}
+use Rattle.graph.specs.Joining.{leadsOf}
 use Rattle.graph.specs.Shape.{shapeOf}
 use Rattle.graph.specs.code.Tables.{itemsOf, linesOf, graphOf}
 use Rattle.graph.specs.code.Graphs.{dagIn, Graphs}
 use Rattle.graph.specs.Laws.{textsAt, Begins, Texts, Named, Laws}
 use Rattle.graph.proofs.AimLaws.{all-in}
-use Rattle.graph.proofs.Gathers.{graph-laws}
+use Rattle.graph.proofs.Gathers.{Bytes, graph-laws, box-byte}
 use Rattle.graph.proofs.Cuts.{length-graph}
 use Rattle.order.specs.Chains.{columns as firstColumns}
 use Rattle.grid.specs.declared.BoxRecord.{BoxRecord}
@@ -42,66 +44,66 @@ use Rattle.grid.specs.Heights.{heights}
 use Rattle.grid.specs.Columns.{columns}
 use Rattle.grid.specs.RenderNode.{Text, drawn, endTexts, textIf, lineTexts, lineLength, textLength, endWidth, sourceGap, sinkGap, firstX, inputY, outputY, centerY, innerWidth, centerWidth}
 use Rattle.grid.specs.RenderGrid.{Sheet, textMoved, boxOf, sheetOf, sheet}
-use Rattle.grid.specs.Curves.{noOutputs, boxRecord, recordOf}
+use Rattle.grid.specs.Curves.{noOutputs, recordOf}
 use Rattle.grid.specs.code.Rendered.{Seated}
 use Rattle.grid.specs.Sheeted.{Sheeted, ready, refusal, within, drawn as drawnAt, sheetOfDag, sheeted, outcomeOf}
 use Rattle.grid.specs.BoxTheorem.{BoxTheorem}
 use Rattle.grid.proofs.Sheets.{Made}
-use Rattle.grid.specs.Labels.{characterWidth, placeOf, labelAt, labelOf}
-use Rattle.grid.specs.code.Sited.{labelFrom, Sited}
+use Rattle.grid.specs.Labels.{noLabel, characterWidth, placeOf, labelAt, labelOf}
+use Rattle.grid.specs.code.Sited.{nodeLabel}
 use Rattle.grid.specs.Labelled.{ready as labels, refusal as unlabelled, labelIn, labelOn, labelled, labelOutcomeOf}
-use Rattle.grid.proofs.LabelLaws.{label-sheet}
+use Rattle.grid.proofs.LabelLaws.{label-sheet, label-past}
 use Rattle.grid.proofs.TextLaws.{Blank, blank}
 
 -- ---- the code's label is the definition's
 -- a sheet that is handed out is that of the cut graph, and it is small
-record Drawing (s : List ℕ) (x y : ℕ) (d : Dag) : Type 0 where
-  made : sheeted s x y ≡ ready (sheetOfDag d)
+record Drawing (v : Setting) (s : List ℕ) (x y : ℕ) (d : Dag) : Type 0 where
+  made : sheeted v s x y ≡ ready (sheetOfDag d)
   wide : x + sheetOfDag d .width ≤ 8388608
   high : y + sheetOfDag d .height ≤ 8388608
 
-fits : (s : List ℕ) (x y : ℕ) (d : Dag) → graphed s ≡ cut d → (a b : Bool) → within x (sheetOfDag d .width) ≡ a → within y (sheetOfDag d .height) ≡ b → outcomeOf x y (sheeted s x y) .answer ≡ Ready → Drawing s x y d
+fits : (v : Setting) (s : List ℕ) (x y : ℕ) (d : Dag) → graphed v s ≡ cut d → (a b : Bool) → within x (sheetOfDag d .width) ≡ a → within y (sheetOfDag d .height) ≡ b → outcomeOf x y (sheeted v s x y) .answer ≡ Ready → Drawing v s x y d
 unfolding sheeted
-fits s x y d c true true e f h = record { made = rw (c, e, f); wide = leb-true (x + sheetOfDag d .width) 8388608 e; high = leb-true (y + sheetOfDag d .height) 8388608 f }
-fits s x y d c true false e f h =
-    let g : outcomeOf x y (sheeted s x y) .answer ≡ Refused 14 0 = rw (c, e, f) in
+fits v s x y d c true true e f h = record { made = rw (c, e, f); wide = leb-true (x + sheetOfDag d .width) 8388608 e; high = leb-true (y + sheetOfDag d .height) 8388608 f }
+fits v s x y d c true false e f h =
+    let g : outcomeOf x y (sheeted v s x y) .answer ≡ Refused 14 0 = rw (c, e, f) in
     let z : _≡_ {A = ℕ} 0 1 = cc in absurd (omega arith)
-fits s x y d c false b e f h =
-    let g : outcomeOf x y (sheeted s x y) .answer ≡ Refused 14 0 = rw (c, e) in
+fits v s x y d c false b e f h =
+    let g : outcomeOf x y (sheeted v s x y) .answer ≡ Refused 14 0 = rw (c, e) in
     let z : _≡_ {A = ℕ} 0 1 = cc in absurd (omega arith)
 
-pub sitting : (s : List ℕ) (w : Graphing) → Graphs s w → Seated (w .graph)
-sitting s w a = record { linked = a .sound .linked; line-room = a .sound .line-room }
+pub sitting : (v : Setting) (s : List ℕ) (w : Graphing) → Graphs v s w → Seated (w .graph)
+sitting v s w a = record { linked = a .sound .linked; line-room = a .sound .line-room }
 
-module _ (s : List ℕ) (x y : ℕ) (o : Outcome) (q : Made s x y o) (w : Graphing) (a : Graphs s w) where
+module _ (v : Setting) (s : List ℕ) (x y : ℕ) (o : Outcome) (q : Made v s x y o) (w : Graphing) (a : Graphs v s w) where
   module _ (answered : o .answer ≡ Ready) where
     abbrev t : Tables
     t = w .graph
 
-    answer-is : outcomeOf x y (sheeted s x y) .answer ≡ Ready
+    answer-is : outcomeOf x y (sheeted v s x y) .answer ≡ Ready
     answer-is = sym (ap (λ (u : Outcome). u .answer) (q .whole)) ∙ answered
 
-    cut-by : (v : Answer) → w .answer ≡ v → graphed s ≡ cut (dagIn t)
+    cut-by : (b : Answer) → w .answer ≡ b → graphed v s ≡ cut (dagIn t)
     unfolding sheeted
     cut-by Ready e = sym (a .graphs) ∙ rw e
     cut-by (Refused n m) e =
-        let g : graphed s ≡ uncut n m = sym (a .graphs) ∙ rw e in
-        let f : outcomeOf x y (sheeted s x y) .answer ≡ Refused n m = rw g in
+        let g : graphed v s ≡ uncut n m = sym (a .graphs) ∙ rw e in
+        let f : outcomeOf x y (sheeted v s x y) .answer ≡ Refused n m = rw g in
         let z : _≡_ {A = ℕ} 0 1 = cc in absurd (omega arith)
 
-    cut-is : graphed s ≡ cut (dagIn t)
+    cut-is : graphed v s ≡ cut (dagIn t)
     cut-is = cut-by (w .answer) refl
 
     abbrev sh : Sheet
     sh = sheetOfDag (dagIn t)
 
-    drawing : Drawing s x y (dagIn t)
-    drawing = fits s x y (dagIn t) cut-is (within x (sh .width)) (within y (sh .height)) refl refl answer-is
+    drawing : Drawing v s x y (dagIn t)
+    drawing = fits v s x y (dagIn t) cut-is (within x (sh .width)) (within y (sh .height)) refl refl answer-is
 
     sheet-is : o .sheet ≡ recordOf sh x y
     sheet-is = ap (λ (u : Outcome). u .sheet) (q .whole ∙ ap (outcomeOf x y) (drawing .made))
 
-    theorem : BoxTheorem (getD s 1 0) (t .cuts) (graphOf t) (o .sheet)
+    theorem : BoxTheorem (getD s 1 0) (leadsIn v s) (t .cuts) (graphOf t) (o .sheet)
     theorem = q .boxes (dagIn t) cut-is answered
 
     width-is : o .sheet .width ≡ sh .width
@@ -115,64 +117,63 @@ module _ (s : List ℕ) (x y : ℕ) (o : Outcome) (q : Made s x y o) (w : Graphi
     many : length (graphOf t) ≡ t .n
     many = length-graph (t .n) (linesOf t) (itemsOf (t .sources)) (itemsOf (t .sinks))
 
-    -- past the boxes the record is empty
-    past : (k : ℕ) → o .sheet .count ≤ k → getD (o .sheet .boxes) k noBox ≡ noBox
-    unfolding recordOf
-    past k h =
-        let c : o .sheet .count ≡ length (sh .boxes) = ap (λ (r : SheetRecord). r .count) sheet-is in
-        ap (λ (r : SheetRecord). getD (r .boxes) k noBox) sheet-is
-        ∙ padded-past (map boxRecord (sh .boxes)) k (omega (arith, c, length-map (sh .boxes) boxRecord)) (ltb k 48) refl
-      where
-        padded-past : (bs : List BoxRecord) (k : ℕ) → length bs ≤ k → (b : Bool) → ltb k 48 ≡ b → getD (padded 48 noBox bs) k noBox ≡ noBox
-        padded-past bs k l true e = getD-padded 48 noBox bs k noBox (ltb-true k 48 e) ∙ List·getD-eq-default bs noBox l
-        padded-past bs k l false e = List·getD-eq-default (padded 48 noBox bs) noBox (omega (arith, length-padded 48 noBox bs, ltb-false k 48 e))
+    abbrev boxAt : ℕ → BoxRecord
+    boxAt k = getD (o .sheet .boxes) k noBox
 
-    pub sited : (k : ℕ) → Sited (getD (o .sheet .boxes) k noBox)
-    sited k = go (ltb k (o .sheet .count)) refl
-      where
-        go : (b : Bool) → ltb k (o .sheet .count) ≡ b → Sited (getD (o .sheet .boxes) k noBox)
-        go true e =
-            let h = ltb-true k (o .sheet .count) e in
-            record {
-              across = omega (arith, theorem .right k h, width-is, drawing .wide);
-              down = omega (arith, theorem .bottom k h, height-is, drawing .high);
-            }
-        go false e = rw (past k (ltb-false k (o .sheet .count) e)) (record { across = omega arith; down = omega arith })
+    -- a box's place is small enough for the sums
+    pub sited : (k : ℕ) → k < t .n → (boxAt k .x ≤ 1250000000) × (boxAt k .y ≤ 1250000000)
+    sited k l =
+        let h : k < o .sheet .count = omega (arith, theorem .one-each, many) in
+        (omega (arith, theorem .right k h, width-is, drawing .wide), omega (arith, theorem .bottom k h, height-is, drawing .high))
 
-    labelled-is : (k i : ℕ) → labelled s x y k i ≡ labelIn sh k i
+    labelled-is : (k i : ℕ) → labelled v s x y k i ≡ labelIn sh k i
     unfolding labelled
     labelled-is k i = rw (drawing .made)
 
-    place-is : (k i : ℕ) → labelFrom (graphOf t) (t .n) (o .sheet) k i ≡ labelOf sh k i
-    unfolding sheetOfDag sheet
-    place-is k i =
-        let g : Graph = graphOf t in
-        let f : List ℕ = firstColumns (shapeOf g) in
-        ap (λ (r : SheetRecord). labelFrom g (t .n) r k i) sheet-is
-        ∙ ap (λ (n : ℕ). labelFrom g n (recordOf sh x y) k i) (sym many)
-        ∙ label-sheet g (t .cuts) (columns (shapeOf g) (heights (shapeOf g)) f) (heights (shapeOf g)) x y (omega (arith, many, a .sound .linked .nodes)) k i
-
-    module _ (k i : ℕ) (p : LabelPlace) (e : p ≡ labelFrom (graphOf t) (t .n) (o .sheet) k i) where
-      pub place-found : p .found ≡ true → record { answer = Ready; place = p } ≡ labelOutcomeOf (labelled s x y k i)
-      place-found f =
-          let h : p ≡ labelOf sh k i = e ∙ place-is k i in
+    module _ (k i : ℕ) where
+      found-is : (p : LabelPlace) → p ≡ labelOf sh k i → p .found ≡ true → record { answer = Ready; place = p } ≡ labelOutcomeOf (labelled v s x y k i)
+      found-is p h f =
           let b : labelOf sh k i .found ≡ true = sym (ap (λ (u : LabelPlace). u .found) h) ∙ f in
           let g : labelIn sh k i ≡ labels (labelOf sh k i) = rw b in
           ap (λ (u : LabelPlace). labelOutcomeOf (labels u)) h ∙ sym (ap labelOutcomeOf (labelled-is k i ∙ g))
 
-      pub place-none : p .found ≡ false → labelOutcomeOf (unlabelled 15 0) ≡ labelOutcomeOf (labelled s x y k i)
-      place-none f =
-          let h : p ≡ labelOf sh k i = e ∙ place-is k i in
+      none-is : (p : LabelPlace) → p ≡ labelOf sh k i → p .found ≡ false → labelOutcomeOf (unlabelled 15 0) ≡ labelOutcomeOf (labelled v s x y k i)
+      none-is p h f =
           let b : labelOf sh k i .found ≡ false = sym (ap (λ (u : LabelPlace). u .found) h) ∙ f in
           let g : labelIn sh k i ≡ unlabelled 15 0 = rw b in
           sym (ap labelOutcomeOf (labelled-is k i ∙ g))
 
+      -- no such box
+      pub place-past : t .n ≤ k → labelOutcomeOf (unlabelled 15 0) ≡ labelOutcomeOf (labelled v s x y k i)
+      unfolding sheetOfDag sheet
+      place-past l =
+          let g : Graph = graphOf t in
+          let f : List ℕ = firstColumns (shapeOf g) in
+          none-is noLabel (sym (label-past g (t .cuts) (columns (shapeOf g) (heights (shapeOf g)) f) (heights (shapeOf g)) k i (omega (arith, many)))) refl
+
+      -- a box, whose node has a label i or not
+      module _ (l : k < t .n) (p : LabelPlace) (e : p ≡ nodeLabel (nodeAt (graphOf t) k) (boxAt k .x) (boxAt k .y) i) where
+        place-is : p ≡ labelOf sh k i
+        unfolding sheetOfDag sheet
+        place-is =
+            let g : Graph = graphOf t in
+            let f : List ℕ = firstColumns (shapeOf g) in
+            e
+            ∙ ap (λ (r : SheetRecord). nodeLabel (nodeAt g k) (getD (r .boxes) k noBox .x) (getD (r .boxes) k noBox .y) i) sheet-is
+            ∙ label-sheet g (t .cuts) (columns (shapeOf g) (heights (shapeOf g)) f) (heights (shapeOf g)) x y (omega (arith, many, a .sound .linked .nodes)) k i (omega (arith, many))
+
+        pub place-found : p .found ≡ true → record { answer = Ready; place = p } ≡ labelOutcomeOf (labelled v s x y k i)
+        place-found = found-is p place-is
+
+        pub place-none : p .found ≡ false → labelOutcomeOf (unlabelled 15 0) ≡ labelOutcomeOf (labelled v s x y k i)
+        place-none = none-is p place-is
+
 -- a refused sheet has no label
-pub place-refused : (s : List ℕ) (x y : ℕ) (o : Outcome) → Made s x y o → (k i n m : ℕ) → o .answer ≡ Refused n m → labelOutcomeOf (unlabelled n m) ≡ labelOutcomeOf (labelled s x y k i)
+pub place-refused : (v : Setting) (s : List ℕ) (x y : ℕ) (o : Outcome) → Made v s x y o → (k i n m : ℕ) → o .answer ≡ Refused n m → labelOutcomeOf (unlabelled n m) ≡ labelOutcomeOf (labelled v s x y k i)
 unfolding labelled
-place-refused s x y o q k i n m e = go (sheeted s x y) (sym (ap (λ (u : Outcome). u .answer) (q .whole)) ∙ e)
+place-refused v s x y o q k i n m e = go (sheeted v s x y) (sym (ap (λ (u : Outcome). u .answer) (q .whole)) ∙ e)
   where
-    go : (v : Sheeted) → outcomeOf x y v .answer ≡ Refused n m → labelOutcomeOf (unlabelled n m) ≡ labelOutcomeOf (labelOn k i v)
+    go : (h : Sheeted) → outcomeOf x y h .answer ≡ Refused n m → labelOutcomeOf (unlabelled n m) ≡ labelOutcomeOf (labelOn k i h)
     go (ready sh) f = let z : _≡_ {A = ℕ} 0 1 = cc in absurd (omega arith)
     go (refusal a b) f =
         let f₁ : a ≡ n = cc in
@@ -193,22 +194,27 @@ no-whole : (s : List ℕ) → Whole s 0 0
 unfolding ending
 no-whole s = record { inside = omega arith; texted = empty; counted = refl }
 
--- a text of the chart s, or one of the 32 fixed texts
+-- a text of the chart s, or one of the 287 fixed texts
 abbrev Held : List ℕ → Line → Type 0
 Held s (given p) = Whole s (p .at) (p .len)
 Held s (number q) = q < 32
+Held s (invalid t) = (0 < t) × (t < 256)
+
+-- the line that fixed text j shows
+abbrev pub fixedLine : ℕ → Line
+fixedLine j = cond (ltb j 32) (number j) (invalid (j - 31))
 
 -- how many characters a label has
 abbrev pub charactersOf : LabelPlace → ℕ
-charactersOf p = cond (p .fixed) (lineLength (number (p .number))) (p .len)
+charactersOf p = cond (p .fixed) (lineLength (fixedLine (p .number))) (p .len)
 
 pub record Lies (s : List ℕ) (p : LabelPlace) : Type 0 where
   pub whole : p .fixed ≡ false → Whole s (p .at) (p .len)
-  pub below : p .fixed ≡ true → p .number < 32
+  pub below : p .fixed ≡ true → p .number < 287
   -- 'The rule for widths moves from bytes to characters'
   pub wide : p .width ≡ characterWidth (p .size) * charactersOf p
 
-module _ (s : List ℕ) where
+module _ (v : Setting) (s : List ℕ) where
   abbrev Kept : Text → Type 0
   Kept t = Held s (t .line) × (t .width ≡ characterWidth (t .size) * lineLength (t .line))
 
@@ -221,8 +227,15 @@ module _ (s : List ℕ) where
   place-lies x y size width (number q) h w =
       record {
         whole = λ e. let z : _≡_ {A = ℕ} 0 1 = cc in absurd (omega arith);
-        below = λ e. h;
-        wide = w;
+        below = λ e. omega (arith, h);
+        wide = rw (lt-ltb q 32 h) w;
+      }
+  place-lies x y size width (invalid t) h w =
+      let z : t + 31 - 31 ≡ t = omega arith in
+      record {
+        whole = λ e. let z : _≡_ {A = ℕ} 0 1 = cc in absurd (omega arith);
+        below = λ e. omega (arith, h .1);
+        wide = rw (le-ltb (t + 31) 32 (omega (arith, h .0)), z) w;
       }
 
   label-lies : (ts : List Text) → All Kept ts → (i : ℕ) → Lies s (labelAt ts i)
@@ -273,11 +286,11 @@ module _ (s : List ℕ) where
   none-short [] e = tt
   none-short (x ∷ es) e = (λ h. absurd (omega (arith, e)), none-short es (omega (arith, e)))
 
-  ends-short : (n : ℕ) (es : List End) → All (Aimed s n) es → All Short (textsAt (map unmarked es))
+  ends-short : (n : ℕ) (es : List End) → All (Aimed v s n) es → All Short (textsAt (map unmarked es))
   ends-short n [] a = tt
-  ends-short n (e ∷ es) a = (λ h. fitting-whole s (e .text) (a .0 .text), ends-short n es (a .1))
+  ends-short n (e ∷ es) a = (λ h. fitting-whole s (e .text) (a .0 .fits .text), ends-short n es (a .1))
 
-  given-holds : (n : ℕ) (p : GivenNode) → Formed s n p → Holds (givenNode p)
+  given-holds : (n : ℕ) (p : GivenNode) → Formed v s n p → Holds (givenNode p)
   given-holds n p f =
       record {
         sources = ends-short n (p .sources) (f .sources);
@@ -285,21 +298,21 @@ module _ (s : List ℕ) where
         sinks = ends-short n (p .sinks) (f .sinks);
       }
 
-  module _ (d : Dag) (laws : Laws s d) where
+  module _ (bytes : Bytes s) (d : Dag) (laws : Laws v s d) where
     abbrev ps : Board
     ps = laws .board
 
     abbrev old : Graph
     old = givenGraph ps
 
-    ac : Accepted s ps
-    ac = accepted s ps (laws .read)
+    ac : Accepted v s ps
+    ac = accepted v s ps (laws .read)
 
     long : length old ≡ length ps
     long = length-map ps givenNode
 
     all-hold : All Holds old
-    all-hold = all-made (Formed s (length ps)) Holds givenNode (given-holds (length ps)) ps (ac .formed)
+    all-hold = all-made (Formed v s (length ps)) Holds givenNode (given-holds (length ps)) ps (ac .formed)
 
     node-holds : (k : ℕ) → k < length (d .graph) → (b : Bool) → ltb k (length ps) ≡ b → Holds (nodeAt (d .graph) k)
     node-holds k h true e =
@@ -313,19 +326,27 @@ module _ (s : List ℕ) where
         }
     node-holds k h false e =
         let l : length ps ≤ k = ltb-false k (length ps) e in
-        let m : Named (length ps) (nodeAt (d .graph) k .lines) = laws .inserted k l h in
         let b : Blank (nodeAt (d .graph) k) = past-blank k h l in
         record {
           sources = none-short (nodeAt (d .graph) k .sources) (omega (arith, b));
-          lines = rw (m .line) (omega (arith, m .inside, ac .nodes), tt);
+          lines = past-line k h l (ltb k (length ps + leadsOf ps)) refl;
           sinks = none-short (nodeAt (d .graph) k .sinks) (omega (arith, b));
         }
       where
+        -- a lead's box, or a cut's
+        past-line : (k : ℕ) → k < length (d .graph) → length ps ≤ k → (c : Bool) → ltb k (length ps + leadsOf ps) ≡ c → All (Held s) (nodeAt (d .graph) k .lines)
+        past-line k h l true e =
+            let o = box-byte v s bytes d laws k l (ltb-true k (length ps + leadsOf ps) e) in
+            rw (o .line) ((omega (arith, o .given, o .past), omega (arith, o .small)), tt)
+        past-line k h l false e =
+            let m : Named (length ps) (nodeAt (d .graph) k .lines) = laws .inserted k (ltb-false k (length ps + leadsOf ps) e) h in
+            rw (m .line) (omega (arith, m .inside, ac .nodes), tt)
+
         past-blank : (k : ℕ) → k < length (d .graph) → length ps ≤ k → Blank (nodeAt (d .graph) k)
         past-blank k h l =
             let z : length old + (k - length old) ≡ k = omega (arith, long) in
             let b : Blank (getD (drop (length old) (d .graph)) (k - length old) bare) =
-            all-in Blank (drop (length old) (d .graph)) (k - length old) bare (omega (arith, length-drop (length old) (d .graph), long)) (blank s d laws) in
+            all-in Blank (drop (length old) (d .graph)) (k - length old) bare (omega (arith, length-drop (length old) (d .graph), long)) (blank v s d laws) in
             rw (getD-drop (length old) (d .graph) (k - length old) bare, z) at b
 
     box-kept : (cols rows : List ℕ) (k : ℕ) → (b : Bool) → ltb k (length (d .graph)) ≡ b → All Kept (getD (tabulate (boxOf (d .graph) cols rows) 0 (length (d .graph))) k noOutputs .texts)
@@ -349,10 +370,10 @@ module _ (s : List ℕ) where
         let cols : List ℕ = columns (shapeOf g) rows (firstColumns (shapeOf g)) in
         label-lies (getD (tabulate (boxOf g cols rows) 0 (length g)) k noOutputs .texts) (box-kept cols rows k (ltb k (length g)) refl) i
 
-  -- a label's text is a text of the chart, or one of the 32 fixed texts
-  pub labelled-lies : (x y k i : ℕ) (p : LabelPlace) → labelled s x y k i ≡ labels p → Lies s p
+  -- a label's text is a text of the chart, or one of the 287 fixed texts
+  pub labelled-lies : Bytes s → (x y k i : ℕ) (p : LabelPlace) → labelled v s x y k i ≡ labels p → Lies s p
   unfolding labelled sheeted
-  labelled-lies x y k i p e = go (graphed s) refl e
+  labelled-lies bytes x y k i p e = go (graphed v s) refl e
     where
       in-sheet : (sh : Sheet) → Lies s (labelOf sh k i) → (b : Bool) → cond b (labels (labelOf sh k i)) (unlabelled 15 0) ≡ labels p → Lies s p
       in-sheet sh l true e = let f : labelOf sh k i ≡ p = cc in rw f at l
@@ -362,6 +383,6 @@ module _ (s : List ℕ) where
       fitting sh l true e = in-sheet sh l (labelOf sh k i .found) e
       fitting sh l false e = let z : _≡_ {A = ℕ} 0 1 = cc in absurd (omega arith)
 
-      go : (v : Graphed) → graphed s ≡ v → labelOn k i (drawnAt x y v) ≡ labels p → Lies s p
-      go (cut d) c f = fitting (sheetOfDag d) (sheet-lies d (graph-laws s d c) k i) (within x (sheetOfDag d .width) && within y (sheetOfDag d .height)) f
+      go : (h : Graphed) → graphed v s ≡ h → labelOn k i (drawnAt x y h) ≡ labels p → Lies s p
+      go (cut d) c f = fitting (sheetOfDag d) (sheet-lies bytes d (graph-laws v s d c) k i) (within x (sheetOfDag d .width) && within y (sheetOfDag d .height)) f
       go (uncut a b) c f = let z : _≡_ {A = ℕ} 0 1 = cc in absurd (omega arith)

@@ -33,3 +33,4 @@ pub mod SoundLaws
 pub mod GivenLaws
 pub mod LabelPlaces
 pub mod Empty
+pub mod Settings

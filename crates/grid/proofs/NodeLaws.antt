@@ -13,7 +13,7 @@ use Rattle.chart.specs.code.Filled.{linesOf as textsOf}
 use Rattle.laws.proofs.Lists.{getD-tabulate, length-tabulate}
 use Rattle.graph.specs.declared.Tables.{Tables}
 use Rattle.graph.specs.Graph.{Edge, Line, number, Node, nodeAt}
-use Rattle.graph.specs.code.Tables.{owned, itemsOf, linesAt, linesOf, graphOf, graphFrom, nodeOf, numberLine}
+use Rattle.graph.specs.code.Tables.{owned, itemsOf, linesAt, linesOf, graphOf, graphFrom, nodeOf, heldLine, numberLine}
 use Rattle.laws.specs.Lists.{one}
 use Rattle.graph.proofs.Lists.{node-graph}
 use Rattle.grid.specs.RenderNode.{separation, firstX, linesHeight, innerWidth, endsWidth, sourceGap, sinkGap}
@@ -74,9 +74,9 @@ rendered-is g p h = rw (node-is g p h) (render-is _)
 
 -- one line at most
 pub number-short : (m : ℕ) → length (numberLine m) ≤ 1
-number-short m = go (eqb m 255)
+number-short m = go (eqb m 512)
   where
-    go : (t : Bool) → length (cond t [] (one (number m))) ≤ 1
+    go : (t : Bool) → length (cond t [] (one (heldLine m))) ≤ 1
     go true = omega arith
     go false = omega arith
 

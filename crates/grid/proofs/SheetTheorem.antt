@@ -29,14 +29,14 @@ Across a b = (a .x + a .width + 1024 ≤ b .x) ⊎ (b .x + b .width + 1024 ≤ a
 abbrev pub Down : Box → Box → Type 0
 Down a b = (a .y + a .height + 2048 ≤ b .y) ⊎ (b .y + b .height + 2048 ≤ a .y)
 
--- n nodes are given; g is the cut graph, which has so many cuts
-pub record SheetTheorem (n cuts : ℕ) (g : Graph) (s : Sheet) : Type 0 where
+-- n nodes are given, with so many leads to nothing; g is the cut graph, which has so many cuts
+pub record SheetTheorem (n leads cuts : ℕ) (g : Graph) (s : Sheet) : Type 0 where
   -- each given node has exactly one box: box k is node k's, for each node of the cut graph, and there are no others
   pub one-each : length (s .boxes) ≡ length g
   pub node's : (k : ℕ) → k < length g → box s k ≡ boxAt (nodeAt g k) (box s k .column) (box s k .row) (box s k .x) (box s k .y)
   pub given : n ≤ length (s .boxes)
-  -- boxes = nodes given + 2 times cuts; the sheet reports the cuts
-  pub boxes : length (s .boxes) ≡ n + 2 * s .cuts
+  -- boxes = nodes given + leads to nothing + 2 times cuts; the sheet reports the cuts
+  pub boxes : length (s .boxes) ≡ n + leads + 2 * s .cuts
   pub reports : s .cuts ≡ cuts
   -- each box has a column and a row of the sheet
   pub has-cell : (k : ℕ) → k < length (s .boxes) → (box s k .column < s .columns) × (box s k .row < s .rows)

@@ -14,13 +14,15 @@ use Rattle.laws.specs.Lists.{All, padded}
 use Rattle.laws.proofs.Lists.{all-made, getD-padded, take-padded}
 use Rattle.chart.specs.declared.Answer.{Answer}
 use Rattle.chart.specs.declared.Answer.the-variants.{Ready, Refused}
+use Rattle.chart.specs.declared.Setting.{Setting}
 use Rattle.graph.specs.declared.Tables.{Tables}
 use Rattle.graph.specs.declared.Outcome.{Outcome as Graphing}
 use Rattle.graph.specs.Graph.{Edge, Graph, nodeAt}
 use Rattle.graph.specs.Shape.{Shape, targets, shapeOf}
 use Rattle.graph.specs.declared.Ends.{Ends}
 use Rattle.graph.specs.Ends.{endsIn, shapeFrom, Linked}
-use Rattle.graph.specs.Graphed.{Dag, Graphed, ready as cut, refusal as refused, graphed}
+use Rattle.graph.specs.Graphed.{Dag, Graphed, ready as cut, refusal as refused, graphed, leadsRead, leadsIn}
+use Rattle.graph.specs.Joining.{leadsOf}
 use Rattle.graph.specs.code.Tables.{itemsOf, linesOf, graphOf}
 use Rattle.graph.specs.code.Graphs.{dagIn, Graphs}
 use Rattle.graph.specs.Laws.{Aimed, Laws}
@@ -59,7 +61,7 @@ use Rattle.grid.proofs.TextLaws.{small}
 use Rattle.grid.proofs.CellLaws.{cell-named, named-cell, cell-empty, empty-cell}
 
 -- the sheet sh of the graph g, at the origin x y
-module _ (n cuts : ℕ) (g : Graph) (sh : Sheet) (t : SheetTheorem n cuts g sh) (few : length (sh .boxes) ≤ 48) (wide : sh .columns ≤ 144) (high : sh .rows ≤ 48) (x y : ℕ) where
+module _ (n leads cuts : ℕ) (g : Graph) (sh : Sheet) (t : SheetTheorem n leads cuts g sh) (few : length (sh .boxes) ≤ 48) (wide : sh .columns ≤ 144) (high : sh .rows ≤ 48) (x y : ℕ) where
   abbrev r : SheetRecord
   r = recordOf sh x y
 
@@ -137,7 +139,7 @@ module _ (n cuts : ℕ) (g : Graph) (sh : Sheet) (t : SheetTheorem n cuts g sh) 
   across : (i j : ℕ) → i < r .count → j < r .count → (i ≡ j → ⊥) → Across (box r i) (box r j) ⊎ Down (box r i) (box r j)
   across i j hi hj o = rw (box-is i hi, box-is j hj) (t .distance i j (in-sheet i hi) (in-sheet j hj) o)
 
-  pub boxed : BoxTheorem n cuts g r
+  pub boxed : BoxTheorem n leads cuts g r
   unfolding recordOf
   boxed =
       record {
@@ -161,7 +163,7 @@ module _ (n cuts : ℕ) (g : Graph) (sh : Sheet) (t : SheetTheorem n cuts g sh) 
       }
 
 -- ---- what the lower crates promise
-module _ (s : List ℕ) (w : Graphing) (a : Graphs s w) (first : List ℕ) (f : first ≡ columnsIn (w .graph .n) (endsIn (w .graph .sources)) (endsIn (w .graph .sinks)) .columns) where
+module _ (v : Setting) (s : List ℕ) (w : Graphing) (a : Graphs v s w) (first : List ℕ) (f : first ≡ columnsIn (w .graph .n) (endsIn (w .graph .sources)) (endsIn (w .graph .sinks)) .columns) where
   abbrev t : Tables
   t = w .graph
 
@@ -169,10 +171,10 @@ module _ (s : List ℕ) (w : Graphing) (a : Graphs s w) (first : List ℕ) (f : 
   firsts = firstColumns (shapeOf (graphOf t))
 
   from : Linked (t .n) (endsIn (t .sources))
-  from = sources-linked t (sources-long s w a) (sinks-long s w a) (a .sound .linked)
+  from = sources-linked t (sources-long v s w a) (sinks-long v s w a) (a .sound .linked)
 
   to : Linked (t .n) (endsIn (t .sinks))
-  to = sinks-linked t (sources-long s w a) (sinks-long s w a) (a .sound .linked)
+  to = sinks-linked t (sources-long v s w a) (sinks-long v s w a) (a .sound .linked)
 
   once : EachOnce (t .n) (take (t .n) first)
   once = rw f (columns-each (t .n) (endsIn (t .sources)) (endsIn (t .sinks)) from to)
@@ -181,7 +183,7 @@ module _ (s : List ℕ) (w : Graphing) (a : Graphs s w) (first : List ℕ) (f : 
   pub first-is : take (t .n) first ≡ firsts
   first-is =
       ap (take (t .n)) (f ∙ columns-in (t .n) (endsIn (t .sources)) (endsIn (t .sinks)) from to ∙ ap (λ (g : Shape). firstColumns g ++ replicate (48 - t .n) 0) (shape-held t))
-      ∙ take-at firsts (replicate (48 - t .n) 0) (t .n) (size t (sources-long s w a) (sinks-long s w a) (a .sound .linked))
+      ∙ take-at firsts (replicate (48 - t .n) 0) (t .n) (size t (sources-long v s w a) (sinks-long v s w a) (a .sound .linked))
 
   pub firsts-are : FirstColumns (t .n) (take (t .n) first)
   firsts-are =
@@ -281,21 +283,26 @@ module _ (w : Graphing) (first : List ℕ) (x y : ℕ) (answered : w .answer ≡
   arranged-past b = let f : record { answer = Refused 14 0; sheet = noSheet } ≡ fittedOf s = rw (at-x, at-y, b) in f ∙ arranged-is
 
 -- ---- what `sheet` makes: every field is the definition's, and the box theorem holds of it
-pub record Made (s : List ℕ) (x y : ℕ) (r : Outcome) : Type 0 where
-  pub whole : r ≡ outcomeOf x y (sheeted s x y)
-  pub boxes : (d : Dag) → graphed s ≡ cut d → r .answer ≡ Ready → BoxTheorem (getD s 1 0) (d .cuts) (d .graph) (r .sheet)
+pub record Made (v : Setting) (s : List ℕ) (x y : ℕ) (r : Outcome) : Type 0 where
+  pub whole : r ≡ outcomeOf x y (sheeted v s x y)
+  pub boxes : (d : Dag) → graphed v s ≡ cut d → r .answer ≡ Ready → BoxTheorem (getD s 1 0) (leadsIn v s) (d .cuts) (d .graph) (r .sheet)
 
-module _ (s : List ℕ) (x y : ℕ) (w : Graphing) (a : Graphs s w) where
+-- the leads of a chart that is drawn
+pub leads-are : (v : Setting) (s : List ℕ) (d : Dag) (l : Laws v s d) → leadsOf (l .board) ≡ leadsIn v s
+unfolding leadsIn
+leads-are v s d l = sym (ap leadsRead (l .read))
+
+module _ (v : Setting) (s : List ℕ) (x y : ℕ) (w : Graphing) (a : Graphs v s w) where
   none-cut : {A : Type 0} (number second : ℕ) (d : Dag) → refused number second ≡ cut d → A
   none-cut number second d e = let z : _≡_ {A = ℕ} 0 1 = cc in absurd (omega arith)
 
   same-dag : (d e : Dag) → cut d ≡ cut e → d ≡ e
   same-dag d e q = cc
 
-  sheet-refused : (number second : ℕ) → w .answer ≡ Refused number second → (r : Outcome) → r ≡ outcomeOf 0 0 (refusal number second) → Made s x y r
+  sheet-refused : (number second : ℕ) → w .answer ≡ Refused number second → (r : Outcome) → r ≡ outcomeOf 0 0 (refusal number second) → Made v s x y r
   unfolding sheeted
   sheet-refused number second q r e =
-      let g : graphed s ≡ refused number second = sym (a .graphs) ∙ rw q in
+      let g : graphed v s ≡ refused number second = sym (a .graphs) ∙ rw q in
       record { whole = rw g e; boxes = λ d h k. none-cut number second d (sym g ∙ h) }
 
   module _ (cs : List ℕ) (q : cs ≡ columnsIn (w .graph .n) (endsIn (w .graph .sources)) (endsIn (w .graph .sinks)) .columns) (answered : w .answer ≡ Ready) where
@@ -308,7 +315,7 @@ module _ (s : List ℕ) (x y : ℕ) (w : Graphing) (a : Graphs s w) where
     abbrev drawing : Sheet
     drawing = sheet g (w .graph .cuts) first
 
-    laws : Laws s (dagIn (w .graph))
+    laws : Laws v s (dagIn (w .graph))
     laws = a .laws answered
 
     many : length g ≡ w .graph .n
@@ -317,34 +324,36 @@ module _ (s : List ℕ) (x y : ℕ) (w : Graphing) (a : Graphs s w) where
     columned-first : FirstColumns (length g) first
     columned-first =
         subst (λ (k : ℕ). FirstColumns k first) (sym many)
-        (subst (λ (l : List ℕ). FirstColumns (w .graph .n) l) (first-is s w a cs q) (firsts-are s w a cs q))
+        (subst (λ (l : List ℕ). FirstColumns (w .graph .n) l) (first-is v s w a cs q) (firsts-are v s w a cs q))
 
-    theorem : SheetTheorem (getD s 1 0) (w .graph .cuts) g drawing
-    theorem = sheet-theorem g first columned-first (getD s 1 0) (w .graph .cuts) (laws .nodes ∙ ap (λ (n : ℕ). n + 2 * w .graph .cuts) (laws .given))
+    theorem : SheetTheorem (getD s 1 0) (leadsIn v s) (w .graph .cuts) g drawing
+    theorem =
+        sheet-theorem g first columned-first (getD s 1 0) (leadsIn v s) (w .graph .cuts)
+        (laws .nodes ∙ ap (λ (n : ℕ). n + leadsOf (laws .board) + 2 * w .graph .cuts) (laws .given) ∙ ap (λ (l : ℕ). getD s 1 0 + l + 2 * w .graph .cuts) (leads-are v s (dagIn (w .graph)) laws))
 
-    boxes-of : BoxTheorem (getD s 1 0) (w .graph .cuts) g (recordOf drawing x y)
+    boxes-of : BoxTheorem (getD s 1 0) (leadsIn v s) (w .graph .cuts) g (recordOf drawing x y)
     boxes-of =
-        boxed (getD s 1 0) (w .graph .cuts) g drawing theorem (omega (arith, theorem .one-each, laws .boxes))
+        boxed (getD s 1 0) (leadsIn v s) (w .graph .cuts) g drawing theorem (omega (arith, theorem .one-each, laws .boxes))
         (columns-few g first columned-first (w .graph .cuts) (laws .boxes)) (rows-few g first columned-first (w .graph .cuts) (laws .boxes)) x y
 
-    sheet-ready : (r : Outcome) → r ≡ fittedOf (recordOf (sheet g (w .graph .cuts) (take (w .graph .n) cs)) x y) → Made s x y r
+    sheet-ready : (r : Outcome) → r ≡ fittedOf (recordOf (sheet g (w .graph .cuts) (take (w .graph .n) cs)) x y) → Made v s x y r
     unfolding sheeted sheetOfDag
     sheet-ready r e =
-        let c : graphed s ≡ cut (dagIn (w .graph)) = sym (a .graphs) ∙ rw answered in
-        let f : r ≡ outcomeOf x y (fitted x y drawing) = e ∙ ap (λ (l : List ℕ). fittedOf (recordOf (sheet g (w .graph .cuts) l) x y)) (first-is s w a cs q) ∙ fit-record drawing x y in
+        let c : graphed v s ≡ cut (dagIn (w .graph)) = sym (a .graphs) ∙ rw answered in
+        let f : r ≡ outcomeOf x y (fitted x y drawing) = e ∙ ap (λ (l : List ℕ). fittedOf (recordOf (sheet g (w .graph .cuts) l) x y)) (first-is v s w a cs q) ∙ fit-record drawing x y in
         record {
           whole = rw c f;
           boxes = λ d h k.
               let m : r .sheet ≡ recordOf drawing x y =
               ap (λ (u : Outcome). u .sheet) f ∙ fit-ready (within x (drawing .width) && within y (drawing .height)) drawing x y (sym (ap (λ (u : Outcome). u .answer) f) ∙ k) in
-              subst (λ (i : Dag). BoxTheorem (getD s 1 0) (i .cuts) (i .graph) (r .sheet)) (same-dag (dagIn (w .graph)) d (sym c ∙ h)) (rw m boxes-of);
+              subst (λ (i : Dag). BoxTheorem (getD s 1 0) (leadsIn v s) (i .cuts) (i .graph) (r .sheet)) (same-dag (dagIn (w .graph)) d (sym c ∙ h)) (rw m boxes-of);
         }
 
   -- either way
-  pub sheet-is : (cs : List ℕ) → cs ≡ columnsIn (w .graph .n) (endsIn (w .graph .sources)) (endsIn (w .graph .sinks)) .columns → (r : Outcome) → r ≡ arrangedOf w cs x y → Made s x y r
+  pub sheet-is : (cs : List ℕ) → cs ≡ columnsIn (w .graph .n) (endsIn (w .graph .sources)) (endsIn (w .graph .sinks)) .columns → (r : Outcome) → r ≡ arrangedOf w cs x y → Made v s x y r
   sheet-is cs q r e = go (w .answer) refl
     where
-      go : (b : Answer) → w .answer ≡ b → Made s x y r
+      go : (b : Answer) → w .answer ≡ b → Made v s x y r
       go Ready h = sheet-ready cs q h r (e ∙ rw h)
       go (Refused number second) h = sheet-refused number second h r (e ∙ rw h)
 
@@ -367,9 +376,9 @@ firsts-of g a =
       distinct = λ i j hi hj e. o .one i j hi hj e;
     }
 
-pub never-14 : (s : List ℕ) (d : Dag) → graphed s ≡ cut d → sheeted s 0 0 ≡ ready (sheetOfDag d)
+pub never-14 : (w : Setting) (s : List ℕ) (d : Dag) → graphed w s ≡ cut d → sheeted w s 0 0 ≡ ready (sheetOfDag d)
 unfolding sheeted sheetOfDag
-never-14 s d c =
-    let f = firsts-of (d .graph) (graph-laws s d c .aimed) in
-    let z = fits (d .graph) (firstColumns (shapeOf (d .graph))) f (d .cuts) (small s d c) in
+never-14 w s d c =
+    let f = firsts-of (d .graph) (graph-laws w s d c .aimed) in
+    let z = fits (d .graph) (firstColumns (shapeOf (d .graph))) f (d .cuts) (small w s d c) in
     rw (c, le-leb (0 + sheetOfDag d .width) 8388608 (omega (arith, z .0)), le-leb (0 + sheetOfDag d .height) 8388608 (omega (arith, z .1)))

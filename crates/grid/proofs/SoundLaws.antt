@@ -20,6 +20,7 @@ use Rattle.graph.specs.Shape.{shapeOf}
 use Rattle.graph.specs.Graphed.{Dag, Graphed, ready as cut, refusal as refused, graphed}
 use Rattle.graph.specs.Laws.{ends, Laws}
 use Rattle.graph.proofs.AimLaws.{all-at}
+use Rattle.chart.specs.declared.Setting.{Setting}
 use Rattle.graph.proofs.Gathers.{graph-laws}
 use Rattle.graph.proofs.EndsLaws.{shape-long}
 use Rattle.order.specs.Chains.{columns as firstColumns}
@@ -218,27 +219,27 @@ module _ (sh : Sheet) (x y : ℕ) where
 
 -- ---- a chart's sheet
 -- the sheet of a cut graph, and what the origin leaves room for
-pub record Drawing (s : List ℕ) (x y : ℕ) (sh : Sheet) : Type 0 where
+pub record Drawing (v : Setting) (s : List ℕ) (x y : ℕ) (sh : Sheet) : Type 0 where
   pub dag : Dag
-  pub walked : graphed s ≡ cut dag
+  pub walked : graphed v s ≡ cut dag
   pub is : sh ≡ sheetOfDag dag
   pub across : x + sh .width ≤ 8388608
   pub down : y + sh .height ≤ 8388608
 
-fitted-is : (s : List ℕ) (x y : ℕ) (d : Dag) (sh : Sheet) → graphed s ≡ cut d → (b c : Bool) → within x (sheetOfDag d .width) ≡ b → within y (sheetOfDag d .height) ≡ c →
-    cond (b && c) (ready (sheetOfDag d)) (refusal 14 0) ≡ ready sh → Drawing s x y sh
-fitted-is s x y d sh g true true a b e =
+fitted-is : (v : Setting) (s : List ℕ) (x y : ℕ) (d : Dag) (sh : Sheet) → graphed v s ≡ cut d → (b c : Bool) → within x (sheetOfDag d .width) ≡ b → within y (sheetOfDag d .height) ≡ c →
+    cond (b && c) (ready (sheetOfDag d)) (refusal 14 0) ≡ ready sh → Drawing v s x y sh
+fitted-is v s x y d sh g true true a b e =
     let i : sh ≡ sheetOfDag d = cc in
     record { dag = d; walked = g; is = i; across = rw i (leb-true (x + sheetOfDag d .width) 8388608 a); down = rw i (leb-true (y + sheetOfDag d .height) 8388608 b) }
-fitted-is s x y d sh g true false a b e = let z : _≡_ {A = ℕ} 0 1 = cc in absurd (omega arith)
-fitted-is s x y d sh g false c a b e = let z : _≡_ {A = ℕ} 0 1 = cc in absurd (omega arith)
+fitted-is v s x y d sh g true false a b e = let z : _≡_ {A = ℕ} 0 1 = cc in absurd (omega arith)
+fitted-is v s x y d sh g false c a b e = let z : _≡_ {A = ℕ} 0 1 = cc in absurd (omega arith)
 
-pub drawing : (s : List ℕ) (x y : ℕ) (sh : Sheet) → sheeted s x y ≡ ready sh → Drawing s x y sh
+pub drawing : (v : Setting) (s : List ℕ) (x y : ℕ) (sh : Sheet) → sheeted v s x y ≡ ready sh → Drawing v s x y sh
 unfolding sheeted
-drawing s x y sh e = go (graphed s) refl e
+drawing v s x y sh e = go (graphed v s) refl e
   where
-    go : (g : Graphed) → graphed s ≡ g → drawnAt x y g ≡ ready sh → Drawing s x y sh
-    go (cut d) i j = fitted-is s x y d sh i (within x (sheetOfDag d .width)) (within y (sheetOfDag d .height)) refl refl j
+    go : (g : Graphed) → graphed v s ≡ g → drawnAt x y g ≡ ready sh → Drawing v s x y sh
+    go (cut d) i j = fitted-is v s x y d sh i (within x (sheetOfDag d .width)) (within y (sheetOfDag d .height)) refl refl j
     go (refused a b) i j = let z : _≡_ {A = ℕ} 0 1 = cc in absurd (omega arith)
 
 -- what the sheet of a cut graph holds
@@ -248,14 +249,14 @@ pub record Held (d : Dag) (sh : Sheet) : Type 0 where
   pub boxes : All (BoxIn (sh .width) (sh .height)) (sh .boxes)
   pub curves-in : All (CurveIn (sh .width) (sh .height)) (curves sh)
 
-pub held : (s : List ℕ) (d : Dag) → graphed s ≡ cut d → Held d (sheetOfDag d)
+pub held : (v : Setting) (s : List ℕ) (d : Dag) → graphed v s ≡ cut d → Held d (sheetOfDag d)
 unfolding sheetOfDag sheet sheetOf
-held s d e =
+held v s d e =
     let g : Graph = d .graph in
     let first : List ℕ = firstColumns (shapeOf g) in
     let rows : List ℕ = heights (shapeOf g) in
     let cols : List ℕ = columns (shapeOf g) rows first in
-    let f : FirstColumns (length g) first = firsts-of g (graph-laws s d e .aimed) in
+    let f : FirstColumns (length g) first = firsts-of g (graph-laws v s d e .aimed) in
     let wide : length cols ≡ length g = placed g first f .long in
     let tall : length rows ≡ length g = heights-long (shapeOf g) ∙ shape-long g in
     record {
@@ -266,23 +267,23 @@ held s d e =
     }
 
 -- the sheet that is laid out of any bytes at any origin is sound
-pub sheet-sound : (s : List ℕ) (x y : ℕ) (sh : Sheet) → sheeted s x y ≡ ready sh → soundOf (recordOf sh x y) ≡ true
-sheet-sound s x y sh e =
-    let d : Drawing s x y sh = drawing s x y sh e in
-    let l : Laws s (d .dag) = graph-laws s (d .dag) (d .walked) in
-    let h : Held (d .dag) sh = subst (Held (d .dag)) (sym (d .is)) (held s (d .dag) (d .walked)) in
+pub sheet-sound : (v : Setting) (s : List ℕ) (x y : ℕ) (sh : Sheet) → sheeted v s x y ≡ ready sh → soundOf (recordOf sh x y) ≡ true
+sheet-sound v s x y sh e =
+    let d : Drawing v s x y sh = drawing v s x y sh e in
+    let l : Laws v s (d .dag) = graph-laws v s (d .dag) (d .walked) in
+    let h : Held (d .dag) sh = subst (Held (d .dag)) (sym (d .is)) (held v s (d .dag) (d .walked)) in
     record-sound sh x y (sh .width) (sh .height) (omega (arith, h .count, l .boxes)) (omega (arith, h .drawn, l .sources)) (h .boxes) (h .curves-in) (d .across) (d .down)
 
 -- an answer that is not refused holds a chart's own sheet
-pub record Own (s : List ℕ) (x y : ℕ) (r : SheetRecord) : Type 0 where
+pub record Own (v : Setting) (s : List ℕ) (x y : ℕ) (r : SheetRecord) : Type 0 where
   pub sheet : Sheet
-  pub laid : sheeted s x y ≡ ready sheet
+  pub laid : sheeted v s x y ≡ ready sheet
   pub is : r ≡ recordOf sheet x y
 
-ready-own : (s : List ℕ) (x y : ℕ) (t : Sheeted) → sheeted s x y ≡ t → outcomeOf x y t .answer ≡ Ready → Own s x y (outcomeOf x y t .sheet)
-ready-own s x y (ready sh) e q = record { sheet = sh; laid = e; is = refl }
-ready-own s x y (refusal a b) e q = let z : _≡_ {A = ℕ} 0 1 = cc in absurd (omega arith)
+ready-own : (v : Setting) (s : List ℕ) (x y : ℕ) (t : Sheeted) → sheeted v s x y ≡ t → outcomeOf x y t .answer ≡ Ready → Own v s x y (outcomeOf x y t .sheet)
+ready-own v s x y (ready sh) e q = record { sheet = sh; laid = e; is = refl }
+ready-own v s x y (refusal a b) e q = let z : _≡_ {A = ℕ} 0 1 = cc in absurd (omega arith)
 
-pub own : (s : List ℕ) (x y : ℕ) (a : Outcome) → a ≡ outcomeOf x y (sheeted s x y) → a .answer ≡ Ready → Own s x y (a .sheet)
-own s x y a w q =
-    subst (λ (u : Outcome). Own s x y (u .sheet)) (sym w) (ready-own s x y (sheeted s x y) refl (sym (ap (λ (u : Outcome). u .answer) w) ∙ q))
+pub own : (v : Setting) (s : List ℕ) (x y : ℕ) (a : Outcome) → a ≡ outcomeOf x y (sheeted v s x y) → a .answer ≡ Ready → Own v s x y (a .sheet)
+own v s x y a w q =
+    subst (λ (u : Outcome). Own v s x y (u .sheet)) (sym w) (ready-own v s x y (sheeted v s x y) refl (sym (ap (λ (u : Outcome). u .answer) w) ∙ q))

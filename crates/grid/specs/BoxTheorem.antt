@@ -31,15 +31,15 @@ Across a b = (a .x + a .width + 1024 ≤ b .x) ⊎ (b .x + b .width + 1024 ≤ a
 abbrev pub Down : BoxRecord → BoxRecord → Type 0
 Down a b = (a .y + a .height + 2048 ≤ b .y) ⊎ (b .y + b .height + 2048 ≤ a .y)
 
--- n nodes are given; g is the cut graph, and the walk made so many cuts
-pub record BoxTheorem (n cuts : ℕ) (g : Graph) (s : SheetRecord) : Type 0 where
+-- n nodes are given, with so many leads to nothing; g is the cut graph, and the walk made so many cuts
+pub record BoxTheorem (n leads cuts : ℕ) (g : Graph) (s : SheetRecord) : Type 0 where
   -- one box for each node of the cut graph, box k for node k: so one for each given node, and no other for it
   pub one-each : s .count ≡ length g
   pub given : n ≤ s .count
   pub widths : (k : ℕ) → k < s .count → box s k .width ≡ boxWidth (nodeAt g k)
   pub heights : (k : ℕ) → k < s .count → box s k .height ≡ boxHeight (nodeAt g k)
-  -- boxes = nodes + 2 × cuts
-  pub boxes : s .count ≡ n + 2 * s .cuts
+  -- boxes = nodes + leads to nothing + 2 × cuts: 'as many boxes as nodes, plus leads to nothing, plus two per cut'
+  pub boxes : s .count ≡ n + leads + 2 * s .cuts
   -- cuts exactly those of the walk
   pub walked : s .cuts ≡ cuts
   -- the cells: at most 144 columns and 48 rows, which the rows of cells show

@@ -1,17 +1,20 @@
 -- Charts and their sheets, through the whole definition from the chart's bytes. A case has the chart in hexadecimal, the origin and the numbers of
 -- the listing: columns, rows, width, height, boxes and cuts, then column, row, x, y, width and height of each box; or both numbers of the refusal. They are the Rust's answers (docs/DIFFERENCES.md).
+-- A case of leads to parts taken out has the target of 12 in the strict setting and the first six numbers in the default one.
 -- Assumes nothing.
 use Prim.Native.Nat.{ℕ}
 use Prim.Native.String.{String}
 use mathlib.Core.Path.{_≡_, refl}
-use mathlib.Core.Bool.{Bool, true}
+use mathlib.Core.Bool.{Bool, true, _&&_}
 use mathlib.Core.List.{List, [], _∷_}
-use lib.ListN.{length}
+use lib.ListN.{length, take}
 use Rattle.laws.specs.Bytes.{hex, allOf, same}
+use Rattle.chart.specs.declared.Setting.the-variants.{Default, Strict}
 use Rattle.chart.specs.Chart.{chart}
 use Rattle.graph.specs.Shape.{shapeOf}
 use Rattle.graph.specs.Completion.{complete}
 use Rattle.graph.specs.Cutting.{reached, cutting}
+use Rattle.graph.specs.Joining.{joined, uncut}
 use Rattle.graph.specs.Graphed.{graphed}
 use Rattle.laws.specs.Each.{each}
 use Rattle.order.specs.Against.{all}
@@ -25,6 +28,7 @@ use Rattle.grid.specs.Sheeted.{Sheeted, ready, refusal, sheetOfDag, shee
 
 data Case : Type 0 where
   is : String → ℕ → ℕ → List ℕ → Case
+  lead : String → ℕ → List ℕ → Case
 
 abbrev boxNumbers : List Box → List ℕ
 boxNumbers [] = []
@@ -35,7 +39,8 @@ numbers (ready s) = s .columns ∷ s .rows ∷ s .width ∷ s .height ∷ length
 numbers (refusal a b) = a ∷ b ∷ []
 
 holds : Case → Bool
-holds (is s x y ns) = same (numbers (sheeted (hex s) x y)) ns
+holds (is s x y ns) = same (numbers (sheeted Strict (hex s) x y)) ns
+holds (lead s t ns) = same (take 6 (numbers (sheeted Default (hex s) 0 0))) ns && same (numbers (sheeted Strict (hex s) 0 0)) (12 ∷ t ∷ [])
 
 cases : List Case
 cases =
@@ -107,8 +112,28 @@ cases =
     is "010104000102020002c2b003c2b04303616263000330c2b00000" 0 0 (2 ∷ 3 ∷ 3328 ∷ 7424 ∷ 5 ∷ 2 ∷ 0 ∷ 1 ∷ 128 ∷ 2816 ∷ 1152 ∷ 1792 ∷ 0 ∷ 2 ∷ 128 ∷ 6656 ∷ 896 ∷ 640 ∷ 1 ∷ 0 ∷ 2304 ∷ 128 ∷ 896 ∷ 640 ∷ 1 ∷ 2 ∷ 2304 ∷ 6656 ∷ 896 ∷ 640 ∷ 0 ∷ 0 ∷ 128 ∷ 128 ∷ 896 ∷ 640 ∷ []) ∷
     -- an empty row
     is "0107100015001a0023002c0033003c000000010400010000030000000306000400040002000106000000050000000200000200010002010005000500000000" 0 0 (7 ∷ 7 ∷ 11648 ∷ 16384 ∷ 17 ∷ 5 ∷ 2 ∷ 1 ∷ 2944 ∷ 2816 ∷ 384 ∷ 384 ∷ 1 ∷ 2 ∷ 1536 ∷ 5504 ∷ 384 ∷ 384 ∷ 2 ∷ 0 ∷ 2944 ∷ 128 ∷ 384 ∷ 384 ∷ 2 ∷ 2 ∷ 2944 ∷ 5504 ∷ 384 ∷ 384 ∷ 0 ∷ 2 ∷ 128 ∷ 5504 ∷ 384 ∷ 384 ∷ 2 ∷ 3 ∷ 2944 ∷ 8192 ∷ 384 ∷ 384 ∷ 1 ∷ 1 ∷ 1536 ∷ 2816 ∷ 384 ∷ 384 ∷ 3 ∷ 3 ∷ 4864 ∷ 8192 ∷ 896 ∷ 640 ∷ 3 ∷ 0 ∷ 4864 ∷ 128 ∷ 896 ∷ 640 ∷ 2 ∷ 4 ∷ 2944 ∷ 10880 ∷ 896 ∷ 640 ∷ 3 ∷ 2 ∷ 4864 ∷ 5504 ∷ 896 ∷ 640 ∷ 3 ∷ 4 ∷ 4864 ∷ 10880 ∷ 896 ∷ 640 ∷ 2 ∷ 6 ∷ 2944 ∷ 15616 ∷ 896 ∷ 640 ∷ 4 ∷ 1 ∷ 6784 ∷ 2816 ∷ 896 ∷ 640 ∷ 6 ∷ 1 ∷ 10624 ∷ 2816 ∷ 896 ∷ 640 ∷ 5 ∷ 1 ∷ 8704 ∷ 2816 ∷ 896 ∷ 640 ∷ 3 ∷ 1 ∷ 4864 ∷ 2816 ∷ 896 ∷ 640 ∷ []) ∷
+    -- 0: snk[200]
+    lead "01010400000001c800" 200 (1 ∷ 2 ∷ 3968 ∷ 3328 ∷ 2 ∷ 0 ∷ []) ∷
+    -- 0: src[200]
+    lead "01010400010000c800" 200 (1 ∷ 2 ∷ 3968 ∷ 3328 ∷ 2 ∷ 0 ∷ []) ∷
+    -- 0: snk[1]: target 1 is box 1's own number
+    lead "010104000000010100" 1 (1 ∷ 2 ∷ 3456 ∷ 3328 ∷ 2 ∷ 0 ∷ []) ∷
+    -- 0: snk[2]; 1: snk[2]: two boxes
+    lead "010206000b0000000102000000010200" 2 (2 ∷ 2 ∷ 7680 ∷ 3328 ∷ 4 ∷ 0 ∷ []) ∷
+    -- 0: src[200] snk[0]: the lead's box is a root, nothing is cut
+    lead "01010400010001c8000000" 200 (1 ∷ 2 ∷ 3968 ∷ 3328 ∷ 2 ∷ 0 ∷ []) ∷
+    -- 0: snk[0, 200]: box 1 is the lead's, 2 and 3 the cut's
+    lead "010104000000020000c800" 200 (2 ∷ 3 ∷ 5888 ∷ 6016 ∷ 4 ∷ 1 ∷ []) ∷
+    -- 0: src[255] lin['k'] snk[255]
+    lead "01010400010101ff00016bff00" 255 (1 ∷ 3 ∷ 3968 ∷ 6272 ∷ 3 ∷ 0 ∷ []) ∷
+    -- 0: snk[3, 1]; 1: src[2]; 2: snk[1]
+    lead "010308000f0014000000020300010001000002000000010100" 3 (2 ∷ 2 ∷ 4864 ∷ 3328 ∷ 4 ∷ 0 ∷ []) ∷
+    -- one node, 48 sinks to 200: refusal 13 (47, and 45 with a sink to itself, are graph's `JoinCases`)
+    lead "01010400000030c800c800c800c800c800c800c800c800c800c800c800c800c800c800c800c800c800c800c800c800c800c800c800c800c800c800c800c800c800c800c800c800c800c800c800c800c800c800c800c800c800c800c800c800c800c800c800c800" 200 (13 ∷ 0 ∷ []) ∷
+    -- a sink to itself and 46 to 200: refusal 13
+    lead "0101040000002f0000c800c800c800c800c800c800c800c800c800c800c800c800c800c800c800c800c800c800c800c800c800c800c800c800c800c800c800c800c800c800c800c800c800c800c800c800c800c800c800c800c800c800c800c800c800c800" 200 (13 ∷ 0 ∷ []) ∷
     []
 
 all-hold : allOf holds cases ≡ true
-unfolding holds cases chart complete reached cutting graphed shapeOf each all round first weights triples chains order firstColumns heights firstMoves foldFrom average columns drawn sheetOf sheet sheetOfDag sheeted
+unfolding holds cases chart complete joined uncut reached cutting graphed shapeOf each all round first weights triples chains order firstColumns heights firstMoves foldFrom average columns drawn sheetOf sheet sheetOfDag sheeted
 all-hold = refl

@@ -4,6 +4,7 @@ use Prim.Native.Nat.{ℕ}
 use mathlib.Core.Bool.{cond}
 use mathlib.Core.List.{List}
 use Rattle.chart.specs.declared.Answer.the-variants.{Ready, Refused}
+use Rattle.chart.specs.declared.Setting.{Setting}
 use Rattle.grid.specs.declared.LabelPlace.{LabelPlace}
 use Rattle.grid.specs.declared.LabelOutcome.{LabelOutcome}
 use Rattle.grid.specs.RenderGrid.{Sheet}
@@ -24,9 +25,9 @@ abbrev pub labelOn : ℕ → ℕ → Sheeted → Labelled
 labelOn k i (drawn sh) = labelIn sh k i
 labelOn k i (refused number second) = refusal number second
 
--- label i of box k of the chart's sheet at the origin x y; the origin is not added to its place
-unfoldable pub labelled : List ℕ → ℕ → ℕ → ℕ → ℕ → Labelled
-labelled s x y k i = labelOn k i (sheeted s x y)
+-- label i of box k of the chart's sheet at the origin x y in the setting w; the origin is not added to its place
+unfoldable pub labelled : Setting → List ℕ → ℕ → ℕ → ℕ → ℕ → Labelled
+labelled w s x y k i = labelOn k i (sheeted w s x y)
 
 -- the answer: a refused label's place is all 0
 abbrev pub labelOutcomeOf : Labelled → LabelOutcome

@@ -6,7 +6,7 @@ use mathlib.Core.Bool.{Bool, true, false, cond}
 use mathlib.Core.List.{List, [], _∷_, _++_, map}
 use lib.Dec.{eqb, ltb}
 use lib.ListN.{length}
-use Rattle.graph.specs.Graph.{Line, given, number, Edge, Node}
+use Rattle.graph.specs.Graph.{Line, given, number, invalid, Edge, Node}
 use Rattle.grid.specs.Lists.{largest, total}
 
 -- an entry of `text`: its place, its size, its width and what is written
@@ -37,10 +37,12 @@ pub record Drawn : Type 0 where
   pub inputs : List Input
   pub outputs : List Output
 
--- a line's length in characters; the Debug text of a node number is `#` and the number, which is below 32 where it names a given node
+-- a line's length in characters; the Debug text of a node number is `#` and the number, which is below 32 where it names a given node;
+-- that of a target that is no node, below 256, is followed by `(invalid)`
 abbrev pub lineLength : Line → ℕ
 lineLength (given p) = p .len
 lineLength (number q) = cond (ltb q 10) 2 3
+lineLength (invalid t) = cond (ltb t 10) 11 (cond (ltb t 100) 12 13)
 
 abbrev pub textLength : Edge → ℕ
 textLength e = e .text .len

@@ -1,10 +1,11 @@
--- Modules 1 to 8 from the chart's bytes: the sheet at an origin, or the first of the refusals 1 to 14.
+-- Modules 1 to 8 from the chart's bytes: the sheet at an origin in a setting, or the first of the refusals 1 to 14.
 -- Assumes nothing.
 use Prim.Native.Nat.{ℕ, _+_}
 use mathlib.Core.Bool.{Bool, cond, _&&_}
 use mathlib.Core.List.{List}
 use lib.Dec.{leb}
 use Rattle.chart.specs.declared.Answer.the-variants.{Ready, Refused}
+use Rattle.chart.specs.declared.Setting.{Setting}
 use Rattle.graph.specs.Shape.{shapeOf}
 use Rattle.graph.specs.Graphed.{Dag, Graphed, ready as cut, refusal as refused, graphed}
 use Rattle.order.specs.Chains.{columns as firstColumns}
@@ -34,9 +35,9 @@ abbrev pub drawn : ℕ → ℕ → Graphed → Sheeted
 drawn x y (cut d) = fitted x y (sheetOfDag d)
 drawn x y (refused number second) = refusal number second
 
--- the sheet of a chart's bytes at the origin x y
-unfoldable pub sheeted : List ℕ → ℕ → ℕ → Sheeted
-sheeted s x y = drawn x y (graphed s)
+-- the sheet of a chart's bytes at the origin x y, in the setting w
+unfoldable pub sheeted : Setting → List ℕ → ℕ → ℕ → Sheeted
+sheeted w s x y = drawn x y (graphed w s)
 
 -- the answer: each field is fixed, past the counts too; a refused sheet's are all 0
 abbrev pub outcomeOf : ℕ → ℕ → Sheeted → Outcome

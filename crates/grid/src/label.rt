@@ -2,22 +2,20 @@
 ghost use mathlib.Core.Path.{_≡_};
 ghost use mathlib.Core.List.{map, _++_};
 ghost use Prim.Native.Nat.{_+_, _<_, _≤_};
-ghost use lib.ListN.{getD};
 ghost use Rattle.chart.specs.code.Filled.{ownedLines, linesOf};
 ghost use Rattle.graph.specs.Graph.{given, nodeAt};
 ghost use Rattle.graph.specs.code.Tables.{owned, itemsOf, numberLine, graphOf};
-ghost use Rattle.grid.specs.Record.{noBox};
 ghost use Rattle.grid.specs.RenderNode.{endTexts, lineTexts};
 ghost use Rattle.grid.specs.RenderGrid.{textMoved};
 ghost use Rattle.grid.specs.code.Rendered.{Seated, Modest, renderOf};
 ghost use Rattle.grid.specs.code.Laid.{Low};
-ghost use Rattle.grid.specs.code.Sited.{seek, notHere, nodeLabel, labelFrom, Sited};
+ghost use Rattle.grid.specs.code.Sited.{fixedNumber, seek, notHere, nodeLabel};
 use crate::LabelPlace;
-use crate::SheetRecord;
 use crate::render_node::RenderNode;
 use crate::render_node::Run;
 use crate::render_node::center_of;
 use crate::render_node::ends_of;
+use crate::render_node::number_line;
 use crate::render_node::render_node;
 use chart::Lines;
 use graph::Table;
@@ -91,12 +89,22 @@ fn end_label(t: Table, p: u8, run: Run, i: usize) -> Seek
     not_here(left)
 }
 
-// Label i of a node's number, which is 255 for none.
-fn number_label(name: u8, x: u32, wy: u32, i: usize) -> Seek
+// The number of a name's text among the fixed texts.
+fn fixed_number(name: u16) -> u16
+    ensures { λ r. ⌜ r ≡ fixedNumber name ⌝ }
+{
+    if name < 256 {
+        return name;
+    }
+    name - 256 + 31
+}
+
+// Label i of the line that a node's name stands for; 512 is none.
+fn number_label(name: u16, x: u32, wy: u32, i: usize) -> Seek
     requires { ⌜ wy ≤ 1300000000 ⌝ }
     ensures { λ r. ⌜ r ≡ seek (lineTexts x wy (numberLine name)) i ⌝ }
 {
-    if name == 255 {
+    if name == 512 {
         return not_here(i);
     }
     if 0 < i {
@@ -107,11 +115,11 @@ fn number_label(name: u8, x: u32, wy: u32, i: usize) -> Seek
         x: x,
         y: wy + 512 - 192,
         size: 464,
-        width: if name < 10 { 512 } else { 768 },
+        width: 256 * (number_line(name).longest as u32),
         fixed: true,
         at: 0,
         len: 0,
-        number: name,
+        number: fixed_number(name),
     };
     Seek {
         place: place,
@@ -120,7 +128,7 @@ fn number_label(name: u8, x: u32, wy: u32, i: usize) -> Seek
 }
 
 // Label i of the lines that p owns and of its number; they begin at x, with wy above them.
-fn line_label(t: Lines, name: u8, p: u8, x: u32, wy: u32, i: usize) -> Seek
+fn line_label(t: Lines, name: u16, p: u8, x: u32, wy: u32, i: usize) -> Seek
     requires { ⌜ t .count ≤ 128 ⌝ }
     requires { ⌜ wy ≤ 1250200000 ⌝ }
     ensures { λ r. ⌜ r ≡ seek (lineTexts x wy (map given (ownedLines p (linesOf t)) ++ numberLine name)) i ⌝ }
@@ -172,8 +180,8 @@ fn node_of(g: Tables, p: u8) -> RenderNode
     render_node(a, c, b)
 }
 
-// Label i of node p, whose box is at x and y.
-fn label_at(g: Tables, p: u8, x: u32, y: u32, i: usize) -> LabelPlace
+// Label i of node p, whose box is at x and y. (It takes the place alone: the sheet by value would be copied, on the unit's stack.)
+pub fn label_at(g: Tables, p: u8, x: u32, y: u32, i: usize) -> LabelPlace
     requires { ⌜ Seated g ⌝ }
     requires { ⌜ p < g .n ⌝ }
     requires { ⌜ x ≤ 1250000000 ⌝ }
@@ -212,17 +220,4 @@ fn label_at(g: Tables, p: u8, x: u32, y: u32, i: usize) -> LabelPlace
     };
     let third = end_label(sinks, p, below, second.left);
     third.place
-}
-
-// Label i of box k of the graph's sheet.
-pub fn label_of(g: Tables, s: SheetRecord, k: usize, i: usize) -> LabelPlace
-    requires { ⌜ Seated g ⌝ }
-    requires { ⌜ Sited (getD (s .boxes) k noBox) ⌝ }
-    ensures { λ r. ⌜ r ≡ labelFrom (graphOf g) (g .n) s k i ⌝ }
-{
-    if k >= g.n {
-        return not_here(0).place;
-    }
-    let b = s.boxes[k];
-    label_at(g, k as u8, b.x, b.y, i)
 }

@@ -1,19 +1,22 @@
 // Modules 6, 7 and 8 of document 01: heights, columns, boxes, and the sheet of a chart.
 ghost use mathlib.Core.Path.{_≡_};
 ghost use mathlib.Core.Bool.{_&&_};
-ghost use lib.ListN.{take};
+ghost use Prim.Native.Nat.{_<_};
+ghost use lib.ListN.{getD, take};
 ghost use Rattle.graph.specs.code.Tables.{graphOf};
 ghost use Rattle.graph.specs.Ends.{endsIn};
 ghost use Rattle.order.specs.Ordered.{columnsIn};
 ghost use Rattle.grid.specs.code.Placed.{FirstColumns};
 ghost use Rattle.grid.specs.code.Rendered.{Seated};
 ghost use Rattle.grid.specs.RenderGrid.{sheet};
+ghost use Rattle.grid.specs.Record.{noBox};
 ghost use Rattle.grid.specs.Curves.{recordOf};
 ghost use Rattle.grid.specs.Sheeted.{within as withinOf, refusal, outcomeOf};
 ghost use Rattle.grid.specs.code.Laid.{arrangedOf};
 ghost use Rattle.grid.specs.LaidOut.{IsSheet};
 ghost use Rattle.grid.specs.Labelled.{refusal as noPlace, labelled, labelOutcomeOf};
 use chart::Answer;
+use chart::Setting;
 use graph::Tables;
 pub use placing::cells;
 pub use record::box_of;
@@ -86,7 +89,7 @@ pub struct LabelPlace {
     pub fixed: bool,
     pub at: u16,
     pub len: u8,
-    pub number: u8,
+    pub number: u16,
 }
 
 // The place of a label; refused, every field of it is 0.
@@ -177,10 +180,10 @@ fn sheet_of(r: graph::Outcome, first: [u8; 48], x: u32, y: u32) -> Outcome
 }
 
 // The sheet of a chart at the origin x y, or the first refusal of 1 to 14. (Its phases are called here and by label_place, and so have frames of their own.)
-pub fn sheet(chart: &[u8], x: u32, y: u32) -> Outcome
-    ensures { λ r. ⌜ IsSheet (now (chart .entry)) x y r ⌝ }
+pub fn sheet(chart: &[u8], x: u32, y: u32, setting: Setting) -> Outcome
+    ensures { λ r. ⌜ IsSheet setting (now (chart .entry)) x y r ⌝ }
 {
-    let r = graph::graph(chart);
+    let r = graph::graph(chart, setting);
     let first = first_in(r);
     sheet_of(r, first, x, y)
 }
@@ -196,19 +199,38 @@ fn no_place(number: u8, second: u32) -> LabelOutcome
     }
 }
 
-// Label i of box k of the chart's sheet, or the first refusal of 1 to 15; the chart is laid out anew.
-pub fn label_place(chart: &[u8], x: u32, y: u32, k: usize, i: usize) -> LabelOutcome
-    ensures { λ r. ⌜ r ≡ labelOutcomeOf (labelled (now (chart .entry)) x y k i) ⌝ }
+// Box k of an answer's sheet. (A function of its own, for the memory: with the sheet taken out beside the answer a label takes 536 bytes more of the unit's stack.)
+fn box_in(r: Outcome, k: usize) -> BoxRecord
+    requires { ⌜ k < 48 ⌝ }
+    ensures { λ b. ⌜ b ≡ getD (r .sheet .boxes) k noBox ⌝ }
 {
-    let r = graph::graph(chart);
+    let s = r.sheet;
+    s.boxes[k]
+}
+
+// Label i of box k of the chart's sheet, or the first refusal of 1 to 15; the chart is laid out anew.
+pub fn label_place(
+    chart: &[u8],
+    x: u32,
+    y: u32,
+    setting: Setting,
+    k: usize,
+    i: usize,
+) -> LabelOutcome
+    ensures { λ r. ⌜ r ≡ labelOutcomeOf (labelled setting (now (chart .entry)) x y k i) ⌝ }
+{
+    let r = graph::graph(chart, setting);
     let first = first_in(r);
     let laid = sheet_of(r, first, x, y);
-    let s = laid.sheet;
     let answer = laid.answer;
     let g = r.graph;
     match answer {
         Answer::Ready => {
-            let place = label::label_of(g, s, k, i);
+            if k >= g.n {
+                return no_place(15, 0);
+            }
+            let b = box_in(laid, k);
+            let place = label::label_at(g, k as u8, b.x, b.y, i);
             if place.found {
                 return LabelOutcome {
                     answer: Answer::Ready,

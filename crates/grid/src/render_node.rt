@@ -79,11 +79,11 @@ pub fn ends_of(t: Table, p: u8) -> Ends
     }
 }
 
-// The line of a node's number, which is 255 for none.
-fn number_line(name: u8) -> Center
+// The line that a node's name stands for: the number of a node, 256 and a target that is no node, or 512 for none.
+pub fn number_line(name: u16) -> Center
     ensures { λ r. ⌜ r ≡ centerOf (numberLine name) ⌝ }
 {
-    if name == 255 {
+    if name == 512 {
         return Center {
             longest: 0,
             count: 0,
@@ -95,14 +95,32 @@ fn number_line(name: u8) -> Center
             count: 1,
         };
     }
+    if name < 256 {
+        return Center {
+            longest: 3,
+            count: 1,
+        };
+    }
+    if name < 266 {
+        return Center {
+            longest: 11,
+            count: 1,
+        };
+    }
+    if name < 356 {
+        return Center {
+            longest: 12,
+            count: 1,
+        };
+    }
     Center {
-        longest: 3,
+        longest: 13,
         count: 1,
     }
 }
 
 // The lines that p owns in the table, and that of its number.
-pub fn center_of(t: Lines, name: u8, p: u8) -> Center
+pub fn center_of(t: Lines, name: u16, p: u8) -> Center
     requires { ⌜ t .count ≤ 128 ⌝ }
     ensures { λ r. ⌜ r ≡ centerOf (map given (ownedLines p (linesOf t)) ++ numberLine name) ⌝ }
 {

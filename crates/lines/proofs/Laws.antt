@@ -5,14 +5,14 @@ use native.Mathlib.Omega.{arith}
 use native.Mathlib.Numerals.{add-one}
 use native.Mathlib.Nat.{min-eq-left, min-eq-right}
 use mathlib.Core.Path.{_≡_, refl, sym, _∙_}
-use mathlib.Core.Bool.{Bool, true, false, cond}
+use mathlib.Core.Bool.{Bool, true, false, cond, false≢true}
 use mathlib.Core.List.{List, [], _∷_}
 use lib.Dec.{eqb, ltb}
-use lib.ListN.{length, getD, set, take, drop, drop-of-length-le}
-use lib.Seq.{drop-cons, take-nil}
+use lib.ListN.{length, getD, set, take, drop, drop-of-length-le, length-drop}
+use lib.Seq.{drop-cons, take-nil, take-all}
 use borrow.Author.Tests.{eq-eqb, ne-eqb, ltb-true}
 use Rattle.laws.proofs.Each.{next}
-use Rattle.lines.specs.Lines.{digitOf, before, lineEnd, lineOf, byteAt, decoded}
+use Rattle.lines.specs.Lines.{digitOf, before, lineEnd, lineOf, isDefault, digitsOf, byteAt, decoded}
 
 -- a digit's value is below 16
 pub digit-small : (c : ℕ) → digitOf c < 16
@@ -47,6 +47,29 @@ line-past s at h = rw (drop-of-length-le s {i = at} (omega arith)) (take-nil (be
 
 pub line-is : (s : List ℕ) (at end : ℕ) → end ≡ lineEnd s at → take (end - at) (drop at s) ≡ lineOf s at
 line-is s at end e = let d : end - at ≡ before (drop at s) = omega arith in rw d
+
+-- a line without a byte does not begin with D, its first byte tells, and one that begins with D has a byte
+pub default-none : (s : List ℕ) → length s ≡ 0 → false ≡ isDefault s
+unfolding isDefault
+default-none [] h = refl
+default-none (b ∷ s) h = absurd (omega arith)
+
+pub default-first : (s : List ℕ) → 0 < length s → eqb (getD s 0 0) 68 ≡ isDefault s
+unfolding isDefault
+default-first [] h = absurd (omega arith)
+default-first (b ∷ s) h = refl
+
+pub default-long : (s : List ℕ) → isDefault s ≡ true → 1 ≤ length s
+unfolding isDefault
+default-long [] h = absurd (false≢true h)
+default-long (b ∷ s) h = omega arith
+
+-- what is left after the D, and a line without one
+pub default-digits : (s : List ℕ) → isDefault s ≡ true → take (length s - 1) (drop 1 s) ≡ digitsOf s
+default-digits s h = rw h (take-all (length s - 1) (drop 1 s) (omega (arith, length-drop 1 s)))
+
+pub plain-digits : (s : List ℕ) → isDefault s ≡ false → s ≡ digitsOf s
+plain-digits s h = rw h
 
 -- as many as there are, or as there is room for
 pub most-left : (a b k : ℕ) → k ≤ a → k ≤ b → a ≤ k → k ≡ min a b

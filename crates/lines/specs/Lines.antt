@@ -1,4 +1,4 @@
--- Lines of hexadecimal digits in lower case.
+-- Lines of hexadecimal digits in lower case, after a D or not.
 -- Assumes nothing.
 use Prim.Native.Nat.{ℕ, zero, suc, _+_, _-_, _*_}
 use mathlib.Core.Bool.{Bool, true, false, cond}
@@ -23,6 +23,15 @@ lineEnd s at = at + before (drop at s)
 -- the line from at on
 abbrev pub lineOf : List ℕ → ℕ → List ℕ
 lineOf s at = take (before (drop at s)) (drop at s)
+
+-- whether the line begins with D (68)
+unfoldable pub isDefault : List ℕ → Bool
+isDefault [] = false
+isDefault (b ∷ s) = eqb b 68
+
+-- the line without a D at its start
+abbrev pub digitsOf : List ℕ → List ℕ
+digitsOf s = cond (isDefault s) (drop 1 s) s
 
 -- byte k that the text names
 abbrev pub byteAt : List ℕ → ℕ → ℕ

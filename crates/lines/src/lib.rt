@@ -1,8 +1,8 @@
-// Charts written in hexadecimal, one on each line: what the programs that run a list of charts read.
+// Charts written in hexadecimal, one on each line, in the default setting after a `D`: what the programs that run a list of charts read.
 ghost use Prim.Native.Nat.{min, _/_, _≤_};
 ghost use mathlib.Core.Path.{_≡_};
 ghost use lib.ListN.{length};
-ghost use Rattle.lines.specs.Lines.{digitOf, lineEnd, lineOf, decoded};
+ghost use Rattle.lines.specs.Lines.{digitOf, lineEnd, lineOf, isDefault, digitsOf, decoded};
 
 // 1,048,576 zeros: room for a list of charts. The `ensures` gives only the length, which lending the array as a slice needs.
 pub fn space() -> [u8; 1048576]
@@ -36,6 +36,26 @@ pub fn line(text: &[u8], at: usize) -> &[u8]
     }
     let end = line_end(text, at);
     &text[at..end]
+}
+
+// Whether a line's chart is in the default setting.
+pub fn is_default(line: &[u8]) -> bool
+    ensures { λ r. ⌜ r ≡ isDefault (now (line .entry)) ⌝ }
+{
+    if line.len() == 0 {
+        return false;
+    }
+    line[0] == 68
+}
+
+// A line's hexadecimal digits: what follows the `D`, or the whole line.
+pub fn digits(line: &[u8]) -> &[u8]
+    ensures { λ r. ⌜ r .now ≡ digitsOf (now (line .entry)) ⌝ }
+{
+    if is_default(line) {
+        return &line[1..];
+    }
+    line
 }
 
 // The value of a hexadecimal digit in lower case.

@@ -1,4 +1,4 @@
-// The listing of document 01: a chart on standard input, its first 8,192 bytes, at origin 0 0; the sheet, its boxes and its path, or the refusal, on standard output.
+// The listing of document 01: a chart on standard input, its first 8,192 bytes, at origin 0 0, in the strict setting; the sheet, its boxes and its path, or the refusal, on standard output.
 // An input of which no byte can be read: that, on standard error, and nothing on standard output.
 ghost use mathlib.Core.Path.{_≡_};
 ghost use mathlib.Core.Bool.{true};
@@ -8,6 +8,7 @@ ghost use Rattle.io.specs.Counts.{Counts};
 ghost use Rattle.grid.specs.Record.{soundOf};
 ghost use Rattle.path.specs.Promises.{IsWritten};
 use chart::Answer;
+use chart::Setting;
 use grid::BoxRecord;
 use grid::SheetRecord;
 use libc::STDERR_FILENO;
@@ -92,7 +93,7 @@ fn print_refusal(first: u8, second: u32) {
 }
 
 fn print_listing(chart: &[u8]) {
-    let r = grid::sheet(chart, 0, 0);
+    let r = grid::sheet(chart, 0, 0, Setting::Strict);
     let a = r.answer;
     let s = r.sheet;
     match a {

@@ -9,6 +9,7 @@ use lib.ListN.{length, take, drop}
 use mir.Val.{boolByte}
 use Rattle.chart.specs.declared.Answer.{Answer}
 use Rattle.chart.specs.declared.Answer.the-variants.{Ready}
+use Rattle.chart.specs.declared.Setting.{Setting}
 use Rattle.chart.specs.Read.{numbersOf}
 use Rattle.grid.specs.declared.Outcome.{Outcome}
 use Rattle.grid.specs.Sheeted.{sheeted, outcomeOf}
@@ -30,20 +31,20 @@ use Rattle.margalhosa.specs.declared.PartResult.{PartResult}
 use Rattle.margalhosa.specs.Results.{sheetResult, IsSheetResult, segmentResult, IsSegmentResult, writtenResult, IsTextResult, IsRewriteResult, partResult, IsPartResult}
 use Rattle.margalhosa.proofs.Zeros.{sheet-zero, sheet-path, text-path, Path-some, IsDone, written-zero}
 
-module _ (s : List ℕ) (x y : ℕ) (o : Outcome) (i : IsSheet s x y o) (n m : ℕ) (a : n ≡ numbersOf (o .answer) .first) (b : m ≡ numbersOf (o .answer) .second) where
+module _ (v : Setting) (s : List ℕ) (x y : ℕ) (o : Outcome) (i : IsSheet v s x y o) (n m : ℕ) (a : n ≡ numbersOf (o .answer) .first) (b : m ≡ numbersOf (o .answer) .second) where
   ready-at : n ≡ 0 → o .answer ≡ Ready
   ready-at z =
-      let w : o .answer ≡ outcomeOf x y (sheeted s x y) .answer = ap (λ (u : Outcome). u .answer) (i .whole) in
-      w ∙ sheet-zero s x y (ap (λ (u : Answer). numbersOf u .first) (sym w) ∙ sym a ∙ z)
+      let w : o .answer ≡ outcomeOf x y (sheeted v s x y) .answer = ap (λ (u : Outcome). u .answer) (i .whole) in
+      w ∙ sheet-zero v s x y (ap (λ (u : Answer). numbersOf u .first) (sym w) ∙ sym a ∙ z)
 
-  pub sheet-is : IsSheetResult s x y (record { refused = n; second = m; sheet = o .sheet })
+  pub sheet-is : IsSheetResult v s x y (record { refused = n; second = m; sheet = o .sheet })
   sheet-is =
       record {
         whole = rw (a, b) (ap sheetResult (i .whole));
         drawn = λ z. sym (i .whole) ∙ rw (← ready-at z);
         laid = λ z. i .laid (ready-at z);
-        text-most = λ z. own-text-most s x y o i (ready-at z);
-        promised = subst (IsSheet s x y) (i .whole) i;
+        text-most = λ z. own-text-most v s x y o i (ready-at z);
+        promised = subst (IsSheet v s x y) (i .whole) i;
       }
 
 -- a flag as a number

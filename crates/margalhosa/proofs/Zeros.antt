@@ -12,11 +12,12 @@ use Rattle.laws.specs.Bytes.{same}
 use Rattle.laws.proofs.Tests.{pick}
 use Rattle.chart.specs.declared.Answer.{Answer}
 use Rattle.chart.specs.declared.Answer.the-variants.{Ready}
-use Rattle.chart.specs.Chart.{Board, Reading, ready as accepted, refusal as unread, Refusal, misplaced, cutBody, manyLines, longText, notText, numberOf, Got, got, refused, endsOf, targetsOf, firstOutside, judgeTargets, judged, underTwo, bodies, chart}
+use Rattle.chart.specs.declared.Setting.{Setting}
+use Rattle.chart.specs.declared.Setting.the-variants.{Strict}
+use Rattle.chart.specs.Chart.{Board, Reading, ready as accepted, refusal as unread, Refusal, misplaced, cutBody, manyLines, longText, notText, numberOf, Got, got, refused, endsOf, targetsOf, outsideIn, judgeTargets, judged, underTwo, bodies, chart}
 use Rattle.chart.specs.Read.{numbersOf}
-use Rattle.graph.specs.Graphed.{Graphed, ready as cut, refusal as uncut, dagOf, drawn as graphOf, graphed}
-use Rattle.graph.specs.Graph.{givenGraph}
-use Rattle.graph.specs.Completion.{complete}
+use Rattle.graph.specs.Graphed.{Graphed, ready as cut, refusal as unboxed, dagOf, drawn as graphOf, graphed}
+use Rattle.graph.specs.Joining.{uncut}
 use Rattle.graph.specs.Cutting.{cutting}
 use Rattle.signal.specs.Signal.{Signalled, ordered, cyclic, refusal as unordered, listed, backFrom, sourcesIn, completedOf, signals, signal}
 use Rattle.signal.specs.Outcome.{outcomeOf as signalOutcome}
@@ -64,9 +65,9 @@ judge-some true c v h = omega arith
 judge-some false true v h = h
 judge-some false false v h = omega arith
 
-judged-some : (s : List ℕ) (n : ℕ) (g : Got Board) → Read-some (judged s n g)
-judged-some s n (got ps at) = judge-some (ltb at (length s)) (leb (endsOf ps) 64) (judgeTargets (firstOutside (targetsOf ps) n) ps) (targets-some (firstOutside (targetsOf ps) n) ps)
-judged-some s n (refused r) = number-some r
+judged-some : (w : Setting) (s : List ℕ) (n : ℕ) (g : Got Board) → Read-some (judged w s n g)
+judged-some w s n (got ps at) = judge-some (ltb at (length s)) (leb (endsOf ps) 64) (judgeTargets (outsideIn w (targetsOf ps) n) ps) (targets-some (outsideIn w (targetsOf ps) n) ps)
+judged-some w s n (refused r) = number-some r
 
 under-two-some : (k : ℕ) → Read-some (underTwo k)
 under-two-some k = pick Read-some (eqb k 0) (accepted []) (unread 1 0) tt (omega arith)
@@ -78,22 +79,22 @@ head-some false true false d u v g h = omega arith
 head-some false true true false u v g h = omega arith
 head-some false true true true u v g h = h
 
-chart-some : (s : List ℕ) → Read-some (chart s)
+chart-some : (w : Setting) (s : List ℕ) → Read-some (chart w s)
 unfolding chart
-chart-some s =
+chart-some w s =
     let n = getD s 1 0 in
     let g = bodies n s 0 (2 + 2 * n) in
-    head-some (ltb (length s) 2) (eqb (getD s 0 0) 1) (leb n 32) (leb (2 + 2 * n) (length s)) (underTwo (length s)) (judged s n g) (under-two-some (length s)) (judged-some s n g)
+    head-some (ltb (length s) 2) (eqb (getD s 0 0) 1) (leb n 32) (leb (2 + 2 * n) (length s)) (underTwo (length s)) (judged w s n g) (under-two-some (length s)) (judged-some w s n g)
 
 -- ---- 13
 abbrev Graph-some : Graphed → Type 0
 Graph-some (cut d) = Unit {0}
-Graph-some (uncut n m) = 0 < n
+Graph-some (unboxed n m) = 0 < n
 
 graph-some : (r : Reading) → Read-some r → Graph-some (graphOf r)
 graph-some (accepted ps) h =
-    let w = cutting (complete (givenGraph ps)) in
-    pick Graph-some (leb (length (w .graph)) 48) (cut (dagOf w)) (uncut 13 0) tt (omega arith)
+    let w = cutting (uncut ps) in
+    pick Graph-some (leb (length (w .graph)) 48) (cut (dagOf w)) (unboxed 13 0) tt (omega arith)
 graph-some (unread n m) h = h
 
 -- ---- 14
@@ -103,18 +104,18 @@ Sheet-some (refusal n m) = 0 < n
 
 drawn-some : (x y : ℕ) (g : Graphed) → Graph-some g → Sheet-some (drawn x y g)
 drawn-some x y (cut d) h = pick Sheet-some (within x (sheetOfDag d .width) && within y (sheetOfDag d .height)) (ready (sheetOfDag d)) (refusal 14 0) tt (omega arith)
-drawn-some x y (uncut n m) h = h
+drawn-some x y (unboxed n m) h = h
 
-sheet-some : (s : List ℕ) (x y : ℕ) → Sheet-some (sheeted s x y)
+sheet-some : (w : Setting) (s : List ℕ) (x y : ℕ) → Sheet-some (sheeted w s x y)
 unfolding sheeted graphed
-sheet-some s x y = drawn-some x y (graphOf (chart s)) (graph-some (chart s) (chart-some s))
+sheet-some w s x y = drawn-some x y (graphOf (chart w s)) (graph-some (chart w s) (chart-some w s))
 
 outcome-zero : (x y : ℕ) (v : Sheeted) → Sheet-some v → numbersOf (outcomeOf x y v .answer) .first ≡ 0 → outcomeOf x y v .answer ≡ Ready
 outcome-zero x y (ready sh) h e = refl
 outcome-zero x y (refusal n m) h e = absurd (omega (arith, h, e))
 
-pub sheet-zero : (s : List ℕ) (x y : ℕ) → numbersOf (outcomeOf x y (sheeted s x y) .answer) .first ≡ 0 → outcomeOf x y (sheeted s x y) .answer ≡ Ready
-sheet-zero s x y = outcome-zero x y (sheeted s x y) (sheet-some s x y)
+pub sheet-zero : (w : Setting) (s : List ℕ) (x y : ℕ) → numbersOf (outcomeOf x y (sheeted w s x y) .answer) .first ≡ 0 → outcomeOf x y (sheeted w s x y) .answer ≡ Ready
+sheet-zero w s x y = outcome-zero x y (sheeted w s x y) (sheet-some w s x y)
 
 -- ---- a box: 14, 15
 box-some : (b c : Bool) (v : BoxAnswer) → v .answer ≡ Ready → boxResult (cond b (cond c v (refusedBox 15)) (refusedBox 14)) .refused ≡ 0 → cond b (cond c v (refusedBox 15)) (refusedBox 14) .answer ≡ Ready
@@ -138,26 +139,26 @@ tabled-some : (t : List ℕ) (v : Labelled) → Label-some v → Label-some (tab
 tabled-some t (labels p) h = pick Label-some (same t standIns) (labels p) (unlabelled 15 0) tt (omega arith)
 tabled-some t (unlabelled n m) h = h
 
-label-some : (t s : List ℕ) (x y k i : ℕ) → Label-some (tabled t (labelled s x y k i))
+label-some : (w : Setting) (t s : List ℕ) (x y k i : ℕ) → Label-some (tabled t (labelled w s x y k i))
 unfolding labelled
-label-some t s x y k i = tabled-some t (labelOn k i (sheeted s x y)) (on-some k i (sheeted s x y) (sheet-some s x y))
+label-some w t s x y k i = tabled-some t (labelOn k i (sheeted w s x y)) (on-some k i (sheeted w s x y) (sheet-some w s x y))
 
 answer-zero : (v : Labelled) → Label-some v → labelResult (answerIn v) .refused ≡ 0 → answerIn v .answer ≡ Ready
 answer-zero (labels p) h e = refl
 answer-zero (unlabelled n m) h e = absurd (omega (arith, h, e))
 
-pub label-zero : (t s : List ℕ) (x y k i : ℕ) → labelResult (labelAnswerOf t (labelled s x y k i)) .refused ≡ 0 → labelAnswerOf t (labelled s x y k i) .answer ≡ Ready
-label-zero t s x y k i = answer-zero (tabled t (labelled s x y k i)) (label-some t s x y k i)
+pub label-zero : (w : Setting) (t s : List ℕ) (x y k i : ℕ) → labelResult (labelAnswerOf t (labelled w s x y k i)) .refused ≡ 0 → labelAnswerOf t (labelled w s x y k i) .answer ≡ Ready
+label-zero w t s x y k i = answer-zero (tabled t (labelled w s x y k i)) (label-some w t s x y k i)
 
 span-answer : (a : Answer) (p : Place) → spanIn a p .answer ≡ a
 span-answer a (inChart b e) = refl
 span-answer a (inTable b e) = refl
 
-pub part-zero : (t s : List ℕ) (x y k i : ℕ) → partResult (labelSpanOf s t (labelled s x y k i)) .refused ≡ 0 → labelSpanOf s t (labelled s x y k i) .answer ≡ Ready
-part-zero t s x y k i e =
-    let l = labelled s x y k i in
+pub part-zero : (w : Setting) (t s : List ℕ) (x y k i : ℕ) → partResult (labelSpanOf s t (labelled w s x y k i)) .refused ≡ 0 → labelSpanOf s t (labelled w s x y k i) .answer ≡ Ready
+part-zero w t s x y k i e =
+    let l = labelled w s x y k i in
     let same = span-answer (labelAnswerOf t l .answer) (labelPartOf s t l) in
-    same ∙ label-zero t s x y k i (sym (ap (λ (a : Answer). numbersOf a .first) same) ∙ e)
+    same ∙ label-zero w t s x y k i (sym (ap (λ (a : Answer). numbersOf a .first) same) ∙ e)
 
 -- ---- segments, of a sheet (14) or of a path text (17 to 19); then 15, 16
 abbrev pub Path-some : Path → Type 0
@@ -232,4 +233,4 @@ order-answer (unordered n m) h e = absurd (omega (arith, h, e))
 
 pub order-zero : (s : List ℕ) → orderResult (signalOutcome (signal s)) .refused ≡ 0 → signalOutcome (signal s) .answer ≡ Ready
 unfolding signal
-order-zero s = order-answer (signals (chart s)) (signal-some (chart s) (chart-some s))
+order-zero s = order-answer (signals (chart Strict s)) (signal-some (chart Strict s) (chart-some Strict s))

@@ -4,9 +4,12 @@ use Prim.Native.Nat.{ℕ, _+_, _≤_}
 use mathlib.Core.Path.{_≡_}
 use mathlib.Core.Bool.{cond}
 use mathlib.Core.List.{List, _++_}
+use lib.Dec.{eqb}
 use lib.ListN.{length, take, drop}
 use lib.Ieee.{binary32, ofBits}
 use Rattle.chart.specs.declared.Answer.the-variants.{Ready}
+use Rattle.chart.specs.declared.Setting.{Setting}
+use Rattle.chart.specs.declared.Setting.the-variants.{Default, Strict}
 use Rattle.chart.specs.Read.{Numbers, numbersOf}
 use Rattle.signal.specs.declared.SignalOrder.{SignalOrder}
 use Rattle.signal.specs.Signal.{signal}
@@ -43,19 +46,23 @@ use Rattle.margalhosa.specs.declared.CountResult.{CountResult}
 use Rattle.margalhosa.specs.declared.LabelResult.{LabelResult}
 use Rattle.margalhosa.specs.declared.PartResult.{PartResult}
 
+-- the setting of a number: 0 is the default and 1 strict; a number that names no setting is strict too
+abbrev pub settingOf : ℕ → Setting
+settingOf n = cond (eqb n 0) Default Strict
+
 -- ---- a sheet and its boxes
 abbrev pub sheetResult : Outcome → SheetResult
 sheetResult o = record { refused = numbersOf (o .answer) .first; second = numbersOf (o .answer) .second; sheet = o .sheet }
 
--- what `margalhosa_sheet` promises, for every byte string s and every origin x y
-pub record IsSheetResult (s : List ℕ) (x y : ℕ) (r : SheetResult) : Type 0 where
+-- what `margalhosa_sheet` promises, in each setting w, for every byte string s and every origin x y
+pub record IsSheetResult (w : Setting) (s : List ℕ) (x y : ℕ) (r : SheetResult) : Type 0 where
   -- every field of the answer is the definition's, of which `grid` promises more: drawn at origin 0 0, the walks
-  pub whole : r ≡ sheetResult (outcomeOf x y (sheeted s x y))
-  pub promised : IsSheet s x y (outcomeOf x y (sheeted s x y))
+  pub whole : r ≡ sheetResult (outcomeOf x y (sheeted w s x y))
+  pub promised : IsSheet w s x y (outcomeOf x y (sheeted w s x y))
   -- 0 is no refusal's number: the sheet is drawn (of the other results: proofs/Zeros.antt)
-  pub drawn : r .refused ≡ 0 → outcomeOf x y (sheeted s x y) ≡ record { answer = Ready; sheet = r .sheet }
+  pub drawn : r .refused ≡ 0 → outcomeOf x y (sheeted w s x y) ≡ record { answer = Ready; sheet = r .sheet }
   -- what is claimed of a sheet that is drawn; its text has at most 9,467 bytes
-  pub laid : r .refused ≡ 0 → LaidOut s x y (r .sheet)
+  pub laid : r .refused ≡ 0 → LaidOut w s x y (r .sheet)
   pub text-most : r .refused ≡ 0 → length (textOf (drawnOf (r .sheet))) ≤ 9467
 
 abbrev pub boxResult : BoxAnswer → BoxResult
@@ -143,7 +150,7 @@ pub record IsPartResult (s t : List ℕ) (l : Labelled) (r : PartResult) : Type 
 abbrev pub orderResult : SignalOrder → OrderResult
 orderResult o = record { refused = numbersOf (o .answer) .first; second = numbersOf (o .answer) .second; count = o .count; nodes = o .nodes }
 
--- what `margalhosa_signal_order` promises, for every byte string s
+-- what `margalhosa_signal_order` promises, for every byte string s, read in the strict setting
 pub record IsOrderResult (s : List ℕ) (r : OrderResult) : Type 0 where
   pub whole : r ≡ orderResult (signalOutcome (signal s))
   -- an order, or a cycle (20) exactly if there is one

@@ -8,8 +8,9 @@ ghost use Rattle.path.specs.Reader.{read};
 ghost use Rattle.path.specs.Answers.{sheetAnswer, countOf};
 ghost use Rattle.path.specs.Promises.{IsReading};
 ghost use Rattle.path.specs.Label.{labelAnswerOf};
-ghost use Rattle.margalhosa.specs.Results.{IsSheetResult, noPen, boxResult, segmentResult, IsSegmentResult, writtenResult, IsTextResult, countResult, IsRewriteResult, labelResult, IsPartResult, IsOrderResult};
+ghost use Rattle.margalhosa.specs.Results.{settingOf, IsSheetResult, noPen, boxResult, segmentResult, IsSegmentResult, writtenResult, IsTextResult, countResult, IsRewriteResult, labelResult, IsPartResult, IsOrderResult};
 use chart::Answer;
+use chart::Setting;
 use grid::BoxRecord;
 use grid::SheetRecord;
 use path::Counted;
@@ -101,6 +102,16 @@ fn second_of(a: Answer) -> u32
         Answer::Ready => 0,
         Answer::Refused(_, second) => second,
     }
+}
+
+// The setting of a number: 0 is the default, any other is strict.
+fn setting_of(number: u32) -> Setting
+    ensures { λ r. ⌜ r ≡ settingOf number ⌝ }
+{
+    if number == 0 {
+        return Setting::Default;
+    }
+    Setting::Strict
 }
 
 // The position 0.0 0.0.
@@ -207,12 +218,12 @@ fn counted(c: Counted) -> CountResult
     }
 }
 
-// The sheet of a chart at the origin x y: 1 to 14.
+// The sheet of a chart at the origin x y, in a setting: 1 to 14.
 #[no_mangle]
-pub extern "C" fn margalhosa_sheet(chart: &[u8], x: u32, y: u32) -> SheetResult
-    ensures { λ r. ⌜ IsSheetResult (now (chart .entry)) x y r ⌝ }
+pub extern "C" fn margalhosa_sheet(chart: &[u8], x: u32, y: u32, setting: u32) -> SheetResult
+    ensures { λ r. ⌜ IsSheetResult (settingOf setting) (now (chart .entry)) x y r ⌝ }
 {
-    let r = grid::sheet(chart, x, y);
+    let r = grid::sheet(chart, x, y, setting_of(setting));
     let answer = r.answer;
     let sheet = r.sheet;
     SheetResult {
@@ -259,13 +270,22 @@ pub extern "C" fn margalhosa_label_place(
     chart: &[u8],
     x: u32,
     y: u32,
+    setting: u32,
     table: &[u8],
     k: u32,
     i: u32,
 ) -> LabelResult
-    ensures { λ r. ⌜ r ≡ labelResult (labelAnswerOf (now (table .entry)) (labelled (now (chart .entry)) x y k i)) ⌝ }
+    ensures { λ r. ⌜ r ≡ labelResult (labelAnswerOf (now (table .entry)) (labelled (settingOf setting) (now (chart .entry)) x y k i)) ⌝ }
 {
-    let l = path::label_place(chart, x, y, table, k as usize, i as usize);
+    let l = path::label_place(
+        chart,
+        x,
+        y,
+        setting_of(setting),
+        table,
+        k as usize,
+        i as usize,
+    );
     let answer = l.answer;
     LabelResult {
         refused: first_of(answer),
@@ -283,13 +303,22 @@ pub extern "C" fn margalhosa_label_part(
     chart: &[u8],
     x: u32,
     y: u32,
+    setting: u32,
     table: &[u8],
     k: u32,
     i: u32,
 ) -> PartResult
-    ensures { λ r. ⌜ IsPartResult (now (chart .entry)) (now (table .entry)) (labelled (now (chart .entry)) x y k i) r ⌝ }
+    ensures { λ r. ⌜ IsPartResult (now (chart .entry)) (now (table .entry)) (labelled (settingOf setting) (now (chart .entry)) x y k i) r ⌝ }
 {
-    let l = path::label_span(chart, x, y, table, k as usize, i as usize);
+    let l = path::label_span(
+        chart,
+        x,
+        y,
+        setting_of(setting),
+        table,
+        k as usize,
+        i as usize,
+    );
     let answer = l.answer;
     PartResult {
         refused: first_of(answer),
@@ -327,7 +356,7 @@ pub extern "C" fn margalhosa_rewrite(text: &[u8], buf: &mut [u8]) -> CountResult
     written(path::rewrite(text, buf))
 }
 
-// The signal order of a chart's nodes: 1 to 12, then 20 with a cycle.
+// The signal order of a chart's nodes: 1 to 12, then 20 with a cycle. The chart is read in the strict setting.
 #[no_mangle]
 pub extern "C" fn margalhosa_signal_order(chart: &[u8]) -> OrderResult
     ensures { λ r. ⌜ IsOrderResult (now (chart .entry)) r ⌝ }

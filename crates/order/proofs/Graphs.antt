@@ -14,6 +14,7 @@ use Rattle.chart.specs.Read.{numbers, numbersOf}
 use Rattle.graph.specs.declared.Tables.{Tables}
 use Rattle.graph.specs.declared.Ends.{Ends}
 use Rattle.graph.specs.declared.Outcome.{Outcome as GraphOutcome}
+use Rattle.chart.specs.declared.Setting.{Setting}
 use Rattle.graph.specs.Graphed.{ready as cut, refusal as refused, graphed}
 use Rattle.graph.specs.code.Graphs.{Graphs}
 use Rattle.graph.specs.Shape.{Shape, shapeOf}
@@ -80,31 +81,31 @@ module _ (t : Tables) (long : length (t .sources .items) ≡ 88) (long₂ : leng
   once = rw (size, ← shape-held t) (once-in (t .n) (endsIn (t .sources)) (endsIn (t .sinks)) sources-linked sinks-linked)
 
 -- ---- what `order` promises, from what `graph` does
-module _ (s : List ℕ) (o : GraphOutcome) (a : Graphs s o) where
+module _ (w : Setting) (s : List ℕ) (o : GraphOutcome) (a : Graphs w s o) where
   refused-none : {A : Type 0} (number second : ℕ) (cs : List ℕ) → refusal number second ≡ ready cs → A
   refused-none number second cs e = let z : _≡_ {A = ℕ} 0 1 = cc in absurd (omega arith)
 
   ready-same : (cs ds : List ℕ) → ready cs ≡ ready ds → cs ≡ ds
   ready-same cs ds e = cc
 
-  numbers-of : (r : Outcome) → r ≡ outcomeOf (ordered s) → (number second : ℕ) → ordered s ≡ refusal number second → numbersOf (r .answer) ≡ numbers number second
-  numbers-of r w number second e = ap (λ (u : Outcome). numbersOf (u .answer)) (w ∙ ap outcomeOf e)
+  numbers-of : (r : Outcome) → r ≡ outcomeOf (ordered w s) → (number second : ℕ) → ordered w s ≡ refusal number second → numbersOf (r .answer) ≡ numbers number second
+  numbers-of r is number second e = ap (λ (u : Outcome). numbersOf (u .answer)) (is ∙ ap outcomeOf e)
 
-  pub order-refused : (number second : ℕ) → o .answer ≡ Refused number second → (r : Outcome) → r ≡ outcomeOf (refusal number second) → IsOrder s r
+  pub order-refused : (number second : ℕ) → o .answer ≡ Refused number second → (r : Outcome) → r ≡ outcomeOf (refusal number second) → IsOrder w s r
   unfolding ordered
   order-refused number second q r e =
-      let g : graphed s ≡ refused number second = sym (a .graphs) ∙ rw q in
-      let w : r ≡ outcomeOf (ordered s) = rw g e in
-      record { whole = w; refused = numbers-of r w; each = λ cs h. refused-none number second cs (rw g at h) }
+      let g : graphed w s ≡ refused number second = sym (a .graphs) ∙ rw q in
+      let is : r ≡ outcomeOf (ordered w s) = rw g e in
+      record { whole = is; refused = numbers-of r is; each = λ cs h. refused-none number second cs (rw g at h) }
 
-  pub order-ready : o .answer ≡ Ready → (r : Outcome) → r ≡ outcomeOf (ready (columns (shapeOf (graphOf (o .graph))))) → IsOrder s r
+  pub order-ready : o .answer ≡ Ready → (r : Outcome) → r ≡ outcomeOf (ready (columns (shapeOf (graphOf (o .graph))))) → IsOrder w s r
   unfolding ordered
   order-ready q r e =
       let t = o .graph in
-      let g : graphed s ≡ cut (record { graph = graphOf t; cuts = t .cuts }) = sym (a .graphs) ∙ rw q in
-      let w : r ≡ outcomeOf (ordered s) = rw g e in
+      let g : graphed w s ≡ cut (record { graph = graphOf t; cuts = t .cuts }) = sym (a .graphs) ∙ rw q in
+      let is : r ≡ outcomeOf (ordered w s) = rw g e in
       record {
-        whole = w;
-        refused = numbers-of r w;
-        each = λ cs h. subst (λ (ds : List ℕ). EachOnce (length ds) ds) (ready-same (columns (shapeOf (graphOf t))) cs (rw g at h)) (once t (sources-long s o a) (sinks-long s o a) (a .sound .linked));
+        whole = is;
+        refused = numbers-of r is;
+        each = λ cs h. subst (λ (ds : List ℕ). EachOnce (length ds) ds) (ready-same (columns (shapeOf (graphOf t))) cs (rw g at h)) (once t (sources-long w s o a) (sinks-long w s o a) (a .sound .linked));
       }

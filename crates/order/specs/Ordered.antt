@@ -11,6 +11,7 @@ use Rattle.laws.specs.Lists.{padded}
 use Rattle.chart.specs.declared.Answer.{Answer}
 use Rattle.chart.specs.declared.Answer.the-variants.{Ready, Refused}
 use Rattle.chart.specs.Read.{numbers, numbersOf}
+use Rattle.chart.specs.declared.Setting.{Setting}
 use Rattle.graph.specs.Graphed.{Graphed, ready as cut, refusal as refused, graphed}
 use Rattle.graph.specs.declared.Ends.{Ends}
 use Rattle.graph.specs.Ends.{shapeFrom}
@@ -29,9 +30,9 @@ abbrev pub drawn : Graphed → Ordered
 drawn (cut d) = ready (columns (shapeOf (d .graph)))
 drawn (refused number second) = refusal number second
 
--- the first columns of a chart's nodes, or the first of the refusals 1 to 13
-unfoldable pub ordered : List ℕ → Ordered
-ordered s = drawn (graphed s)
+-- the first columns of a chart's nodes in a setting, or the first of the refusals 1 to 13
+unfoldable pub ordered : Setting → List ℕ → Ordered
+ordered w s = drawn (graphed w s)
 
 -- the answer: each field is fixed, past the count too
 abbrev pub outcomeOf : Ordered → Outcome
@@ -39,12 +40,12 @@ outcomeOf (ready cs) = record { answer = Ready; count = length cs; columns = pad
 outcomeOf (refusal number second) = record { answer = Refused number second; count = 0; columns = replicate 48 0 }
 
 -- what `order` promises
-pub record IsOrder (s : List ℕ) (r : Outcome) : Type 0 where
+pub record IsOrder (w : Setting) (s : List ℕ) (r : Outcome) : Type 0 where
   -- every field of the answer is the definition's; a refusal is document 01's two numbers
-  pub whole : r ≡ outcomeOf (ordered s)
-  pub refused : (number second : ℕ) → ordered s ≡ refusal number second → numbersOf (r .answer) ≡ numbers number second
+  pub whole : r ≡ outcomeOf (ordered w s)
+  pub refused : (number second : ℕ) → ordered w s ≡ refusal number second → numbersOf (r .answer) ≡ numbers number second
   -- the columns are 0, 2, .. 2(N - 1), each node exactly one
-  pub each : (cs : List ℕ) → ordered s ≡ ready cs → EachOnce (length cs) cs
+  pub each : (cs : List ℕ) → ordered w s ≡ ready cs → EachOnce (length cs) cs
 
 -- ---- the same from the ends of all nodes
 -- n nodes: the counts are within the arrays, and each end is one node's and leads to a node

@@ -7,6 +7,7 @@ ghost use Rattle.graph.specs.Shape.{shapeOf};
 ghost use Rattle.order.specs.Chains.{columns};
 ghost use Rattle.order.specs.Ordered.{ready, refusal, ordered, outcomeOf, IsOrder, linkedOf, IsColumns};
 use chart::Answer;
+use chart::Setting;
 use columns::first_of;
 use graph::Ends;
 use graph::Tables;
@@ -56,10 +57,10 @@ fn drawn(g: Tables) -> Outcome
 }
 
 // Each node's first column, or the first refusal of 1 to 13.
-pub fn order(chart: &[u8]) -> Outcome
-    ensures { λ r. ⌜ IsOrder (now (chart .entry)) r ⌝ }
+pub fn order(chart: &[u8], setting: Setting) -> Outcome
+    ensures { λ r. ⌜ IsOrder setting (now (chart .entry)) r ⌝ }
 {
-    let r = graph::graph(chart);
+    let r = graph::graph(chart, setting);
     let answer = r.answer;
     let g = r.graph;
     match answer {

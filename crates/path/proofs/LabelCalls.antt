@@ -5,26 +5,31 @@ use native.Mathlib.Omega.{arith}
 use mathlib.Core.Path.{_≡_, refl, sym, ap, _∙_}
 use mathlib.Core.Bool.{Bool, true, false, cond}
 use mathlib.Core.List.{List}
-use lib.Dec.{ltb, leb}
+use lib.Dec.{leb}
 use lib.ListN.{length}
-use borrow.Author.Tests.{le-leb, ltb-true, ltb-false}
+use borrow.Author.Tests.{le-leb}
 use Rattle.laws.specs.Bytes.{same}
-use Rattle.laws.proofs.Lists.{same-true}
+use Rattle.laws.proofs.Lists.{same-true, same-self}
 use Rattle.chart.specs.declared.Answer.the-variants.{Ready, Refused}
+use Rattle.chart.specs.declared.Setting.{Setting}
 use Rattle.chart.specs.Text.{empty, ending}
 use Rattle.chart.proofs.Gives.{ending-from}
 use Rattle.grid.specs.declared.LabelPlace.{LabelPlace}
 use Rattle.grid.specs.declared.LabelOutcome.{LabelOutcome}
 use Rattle.grid.specs.Labels.{noLabel}
 use Rattle.grid.specs.Labelled.{Labelled, ready, refusal, labelled, labelOutcomeOf}
+use Rattle.graph.proofs.Gathers.{Bytes}
 use Rattle.grid.proofs.LabelPlaces.{Lies, labelled-lies}
 use Rattle.path.specs.declared.label.Span.{Span}
 use denote.Ref.{RefT}
 use Rattle.path.specs.declared.LabelSpan.{LabelSpan}
 use Rattle.path.specs.Label.{chart, table, partAt, textAt, IsAt, standIn, standInsTo, standIns, standInSpan, tabled, answerIn, placeIn, labelPartOf, LabelText, IsLabelPart, spanIn, labelSpanOf, IsLabelSpan}
-use Rattle.path.proofs.Labels.{stand-ins-long, stand-in-reads, stand-in-low, stand-in-high, stand-in-texted, stand-in-counted}
+use Rattle.path.proofs.Labels.{stand-ins-long, stand-in-reads, stand-in-within, stand-in-texted, stand-in-counted, span-rises, span-within}
 
 -- ---- the table
+pub table-own : (t : List ℕ) → t ≡ standIns → same t standIns ≡ true
+table-own t e = rw e (same-self standIns)
+
 pub tabled-found : (t : List ℕ) (l : Labelled) (r : LabelOutcome) → r ≡ labelOutcomeOf l → r .answer ≡ Ready → same t standIns ≡ true →
     record { answer = Ready; place = r .place } ≡ labelOutcomeOf (tabled t l)
 tabled-found t (ready p) r e a b = rw (b, ap (λ (u : LabelOutcome). u .place) e)
@@ -67,39 +72,31 @@ tabled-ready t (refusal n m) r e a =
     let f : r .answer ≡ Refused n m = ap (λ (u : LabelOutcome). u .answer) e in
     let z : _≡_ {A = ℕ} 0 1 = cc in absurd (omega arith)
 
--- the part where `#q` stands lies within the 86 bytes
-span-within : (q : ℕ) → q < 32 → (b : Bool) → ltb q 10 ≡ b → length (standInsTo q) + length (standIn q) ≤ 86
-span-within q h true e = let l = stand-in-low q h (ltb-true q 10 e) in omega (arith, l .0, l .1, ltb-true q 10 e)
-span-within q h false e = let l = stand-in-high q h (ltb-false q 10 e) in omega (arith, l .0, l .1, ltb-false q 10 e)
-
-module _ (s t : List ℕ) (x y k i : ℕ) (r : LabelOutcome) (e : r ≡ labelOutcomeOf (tabled t (labelled s x y k i))) (a : r .answer ≡ Ready) where
-  found : (labelled s x y k i ≡ ready (r .place)) × (same t standIns ≡ true)
-  found = tabled-ready t (labelled s x y k i) r e a
+module _ (w : Setting) (s t : List ℕ) (bytes : Bytes s) (x y k i : ℕ) (r : LabelOutcome) (e : r ≡ labelOutcomeOf (tabled t (labelled w s x y k i))) (a : r .answer ≡ Ready) where
+  found : (labelled w s x y k i ≡ ready (r .place)) × (same t standIns ≡ true)
+  found = tabled-ready t (labelled w s x y k i) r e a
 
   lies : Lies s (r .place)
-  lies = labelled-lies s x y k i (r .place) (found .0)
+  lies = labelled-lies w s bytes x y k i (r .place) (found .0)
 
-  part-is : labelPartOf s t (labelled s x y k i) ≡ placeIn s (ready (r .place))
+  part-is : labelPartOf s t (labelled w s x y k i) ≡ placeIn s (ready (r .place))
   part-is = rw (found .0, found .1)
 
-  pub number-small : r .place .fixed ≡ true → r .place .number < 32
+  pub number-small : r .place .fixed ≡ true → r .place .number < 287
   number-small = lies .below
 
-  pub fixed-part : r .place .fixed ≡ true → (p : Span) → p ≡ standInSpan (r .place .number) → (m : ℕ) → partAt true (p .at) (p .end) m (length t) ≡ labelPartOf s t (labelled s x y k i)
+  pub fixed-part : r .place .fixed ≡ true → (p : Span) → p ≡ standInSpan (r .place .number) → (m : ℕ) → partAt true (p .at) (p .end) m (length t) ≡ labelPartOf s t (labelled w s x y k i)
   fixed-part f p h m =
       let q : ℕ = r .place .number in
-      let long : length t ≡ 86 = ap length (same-true t standIns (found .1)) ∙ stand-ins-long in
-      let w : length (standInsTo q) + length (standIn q) ≤ 86 = span-within q (lies .below f) (ltb q 10) refl in
-      let at : p .at ≡ length (standInsTo q) = ap (λ (z : Span). z .at) h in
-      let end : p .end ≡ length (standInsTo q) + length (standIn q) = ap (λ (z : Span). z .end) h in
-      let u : leb (p .at) (p .end) ≡ true = le-leb (p .at) (p .end) (omega (arith, at, end)) in
-      let v : leb (p .end) (length t) ≡ true = le-leb (p .end) (length t) (omega (arith, end, w, long)) in
+      let long : length t ≡ 3293 = ap length (same-true t standIns (found .1)) ∙ stand-ins-long in
+      let u : leb (p .at) (p .end) ≡ true = le-leb (p .at) (p .end) (span-rises q p h) in
+      let v : leb (p .end) (length t) ≡ true = le-leb (p .end) (length t) (omega (arith, span-within q p h (lies .below f), long)) in
       let one : partAt true (p .at) (p .end) m (length t) ≡ table (p .at) (p .end) = rw (u, v) in
       let two : table (p .at) (p .end) ≡ table (standInSpan q .at) (standInSpan q .end) = ap (λ (z : Span). table (z .at) (z .end)) h in
       let three : placeIn s (ready (r .place)) ≡ table (standInSpan q .at) (standInSpan q .end) = rw f in
       one ∙ two ∙ sym (part-is ∙ three)
 
-  pub given-part : r .place .fixed ≡ false → (end : ℕ) → end ≡ ending (r .place .len) s (r .place .at) → (n : ℕ) → partAt false (r .place .at) end (length s) n ≡ labelPartOf s t (labelled s x y k i)
+  pub given-part : r .place .fixed ≡ false → (end : ℕ) → end ≡ ending (r .place .len) s (r .place .at) → (n : ℕ) → partAt false (r .place .at) end (length s) n ≡ labelPartOf s t (labelled w s x y k i)
   given-part f end h n =
       let u : leb (r .place .at) end ≡ true = le-leb (r .place .at) end (omega (arith, ending-from (r .place .len) s (r .place .at))) in
       let v : leb end (length s) ≡ true = le-leb end (length s) (omega (arith, lies .whole f .inside)) in
@@ -108,22 +105,18 @@ module _ (s t : List ℕ) (x y k i : ℕ) (r : LabelOutcome) (e : r ≡ labelOut
       one ∙ sym (part-is ∙ three)
 
   -- ---- the same part as a span
-  span-is : labelSpanOf s t (labelled s x y k i) ≡ spanIn Ready (placeIn s (ready (r .place)))
+  span-is : labelSpanOf s t (labelled w s x y k i) ≡ spanIn Ready (placeIn s (ready (r .place)))
   span-is = rw (found .0, found .1)
 
-  pub span-fits : r .place .fixed ≡ true → (p : Span) → p ≡ standInSpan (r .place .number) → (p .at ≤ p .end) × (p .end ≤ 86)
-  span-fits f p h =
-      let w = span-within (r .place .number) (lies .below f) (ltb (r .place .number) 10) refl in
-      let at = ap (λ (z : Span). z .at) h in
-      let end = ap (λ (z : Span). z .end) h in
-      (omega (arith, at, end), omega (arith, end, w))
+  pub span-fits : r .place .fixed ≡ true → (p : Span) → p ≡ standInSpan (r .place .number) → (p .at ≤ p .end) × (p .end ≤ 3293)
+  span-fits f p h = let q = r .place .number in (span-rises q p h, span-within q p h (lies .below f))
 
   pub fixed-span : r .place .fixed ≡ true → (p : Span) → p ≡ standInSpan (r .place .number) →
-      record { answer = Ready; fixed = true; at = p .at; len = p .end - p .at } ≡ labelSpanOf s t (labelled s x y k i)
+      record { answer = Ready; fixed = true; at = p .at; len = p .end - p .at } ≡ labelSpanOf s t (labelled w s x y k i)
   fixed-span f p h = rw (span-is, f, h)
 
   pub given-span : r .place .fixed ≡ false → (end : ℕ) → end ≡ ending (r .place .len) s (r .place .at) →
-      record { answer = Ready; fixed = false; at = r .place .at; len = end - r .place .at } ≡ labelSpanOf s t (labelled s x y k i)
+      record { answer = Ready; fixed = false; at = r .place .at; len = end - r .place .at } ≡ labelSpanOf s t (labelled w s x y k i)
   given-span f end h = rw (span-is, f, h)
 
 -- refused: the empty part at the chart's start
@@ -151,8 +144,8 @@ fixed-text : (s t : List ℕ) (p : LabelPlace) → Lies s p → same t standIns 
 fixed-text s t p l f e =
     let q : ℕ = p .number in
     let is : t ≡ standIns = same-true t standIns f in
-    let w : length (standInsTo q) + length (standIn q) ≤ 86 = span-within q (l .below e) (ltb q 10) refl in
-    let long : length t ≡ 86 = ap length is ∙ stand-ins-long in
+    let w : length (standInsTo q) + length (standIn q) ≤ 3293 = stand-in-within q (l .below e) in
+    let long : length t ≡ 3293 = ap length is ∙ stand-ins-long in
     let len : length (standInsTo q) + length (standIn q) - length (standInsTo q) ≡ length (standIn q) = omega arith in
     let reads : textAt s t (placeIn s (ready p)) ≡ standIn q = rw (e, len, is) (stand-in-reads q (l .below e)) in
     record {
@@ -180,12 +173,12 @@ tabled-text s t (ready p) h true e = rw e (place-text s t p (h p refl) e (p .fix
 tabled-text s t (ready p) h false e = rw e (refused-text s t 15 0)
 tabled-text s t (refusal i j) h b e = refused-text s t i j
 
-label-text : (s t : List ℕ) (x y k i : ℕ) → LabelText s t (tabled t (labelled s x y k i))
-label-text s t x y k i = tabled-text s t (labelled s x y k i) (λ p e. labelled-lies s x y k i p e) (same t standIns) refl
+label-text : (w : Setting) (s t : List ℕ) → Bytes s → (x y k i : ℕ) → LabelText s t (tabled t (labelled w s x y k i))
+label-text w s t bytes x y k i = tabled-text s t (labelled w s x y k i) (λ p e. labelled-lies w s bytes x y k i p e) (same t standIns) refl
 
-pub is-label-part : (s t : RefT (List ℕ)) (x y k i : ℕ) (r : RefT (List ℕ)) → IsAt (labelPartOf (s .now) (t .now) (labelled (s .now) x y k i)) s t r →
-    IsLabelPart s t (labelled (s .now) x y k i) r
-is-label-part s t x y k i r a = record { is = a; text = label-text (s .now) (t .now) x y k i }
+pub is-label-part : (w : Setting) (s t : RefT (List ℕ)) → Bytes (s .now) → (x y k i : ℕ) (r : RefT (List ℕ)) → IsAt (labelPartOf (s .now) (t .now) (labelled w (s .now) x y k i)) s t r →
+    IsLabelPart s t (labelled w (s .now) x y k i) r
+is-label-part w s t bytes x y k i r a = record { is = a; text = label-text w (s .now) (t .now) bytes x y k i }
 
-pub is-label-span : (s t : List ℕ) (x y k i : ℕ) (r : LabelSpan) → r ≡ labelSpanOf s t (labelled s x y k i) → IsLabelSpan s t (labelled s x y k i) r
-is-label-span s t x y k i r e = record { whole = e; text = label-text s t x y k i }
+pub is-label-span : (w : Setting) (s t : List ℕ) → Bytes s → (x y k i : ℕ) (r : LabelSpan) → r ≡ labelSpanOf s t (labelled w s x y k i) → IsLabelSpan s t (labelled w s x y k i) r
+is-label-span w s t bytes x y k i r e = record { whole = e; text = label-text w s t bytes x y k i }

@@ -8,6 +8,7 @@ use borrow.Author.Tests.{le-leb, lt-leb, lt-ltb, le-ltb}
 use lib.ListN.{length, getD}
 use Rattle.laws.proofs.Lists.{length-padded}
 use Rattle.chart.specs.declared.Answer.the-variants.{Ready}
+use Rattle.chart.specs.declared.Setting.{Setting}
 use Rattle.grid.specs.declared.SheetRecord.{SheetRecord}
 use Rattle.grid.specs.declared.Outcome.{Outcome}
 use Rattle.grid.specs.RenderGrid.{Sheet}
@@ -54,10 +55,10 @@ pub sound-written : {r : SheetRecord} {buf out : List ℕ} {w : Written} → sou
 sound-written {r} {buf} o h i = let z : 0 + length (textOf (drawnOf r)) ≤ length buf = omega arith in i .whole ∙ rw (o, le-leb (0 + length (textOf (drawnOf r))) (length buf) z)
 
 -- ---- of every chart, at every origin
-pub sheet-serves : (s : List ℕ) (x y : ℕ) (sh : Sheet) → sheeted s x y ≡ ready sh → Serves (recordOf sh x y)
+pub sheet-serves : (v : Setting) (s : List ℕ) (x y : ℕ) (sh : Sheet) → sheeted v s x y ≡ ready sh → Serves (recordOf sh x y)
 unfolding recordOf
-sheet-serves s x y sh e =
-    sound-serves (recordOf sh x y) (length-padded 48 noBox (map boxRecord (sh .boxes))) (length-padded 88 noCurve (curves sh)) (sheet-sound s x y sh e)
+sheet-serves v s x y sh e =
+    sound-serves (recordOf sh x y) (length-padded 48 noBox (map boxRecord (sh .boxes))) (length-padded 88 noCurve (curves sh)) (sheet-sound v s x y sh e)
 
-pub own-serves : (s : List ℕ) (x y : ℕ) (a : Outcome) → IsSheet s x y a → a .answer ≡ Ready → Serves (a .sheet)
-own-serves s x y a i q = let o : Own s x y (a .sheet) = own s x y a (i .whole) q in subst Serves (sym (o .is)) (sheet-serves s x y (o .sheet) (o .laid))
+pub own-serves : (v : Setting) (s : List ℕ) (x y : ℕ) (a : Outcome) → IsSheet v s x y a → a .answer ≡ Ready → Serves (a .sheet)
+own-serves v s x y a i q = let o : Own v s x y (a .sheet) = own v s x y a (i .whole) q in subst Serves (sym (o .is)) (sheet-serves v s x y (o .sheet) (o .laid))

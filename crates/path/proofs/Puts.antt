@@ -4,8 +4,8 @@ use mathlib.Core.List.{List, [], _∷_, _++_}
 use Prim.Native.Nat.{ℕ, suc, _+_, _/_, _%_, _≤_, _<_}
 use native.Mathlib.Numerals.{add-one}
 use native.Mathlib.Omega.{arith}
-use lib.ListN.{length, take, drop, set, length-append}
-use lib.Seq.{sets, sets-eq, set-comm, length-sets}
+use lib.ListN.{length, getD, take, drop, set, length-append}
+use lib.Seq.{sets, sets-eq, set-comm, length-sets, take-suc, length-take-le}
 use borrow.Author.Tests.{le-leb, lt-leb}
 use Rattle.path.specs.declared.Written.the-variants.{Done, Refused}
 use Rattle.path.specs.Number.{digits, numberText}
@@ -30,6 +30,14 @@ put-before t l i c = let e : i + 1 ≡ suc i = omega arith in rw e (set-put t l 
 -- a byte stored after
 pub put-after : (s l : List ℕ) (i c : ℕ) → set (put l i s) (i + length s) c ≡ put l i (s ++ c ∷ [])
 put-after s l i c = sym (put-append s (c ∷ []) l i)
+
+-- byte i of a text, after the first i
+pub put-next : (t l : List ℕ) (at i : ℕ) → i < length t → set (put l at (take i t)) (at + i) (getD t i 0) ≡ put l at (take (i + 1) t)
+put-next t l at i h =
+    let e : at + i ≡ at + length (take i t) = omega (arith, length-take-le i t (omega arith)) in
+    ap (λ (z : ℕ). set (put l at (take i t)) z (getD t i 0)) e
+    ∙ put-after (take i t) l at (getD t i 0)
+    ∙ ap (put l at) (sym (take-suc t i 0 h) ∙ ap (λ (z : ℕ). take z t) (sym (add-one i)))
 
 -- what `put` is, where it fits: the bytes before, the text, the bytes after
 pub put-parts : (t l : List ℕ) (i : ℕ) → i + length t ≤ length l → put l i t ≡ take i l ++ t ++ drop (i + length t) l

@@ -12,6 +12,7 @@ use Rattle.laws.specs.Bytes.{allOf}
 use Rattle.laws.specs.Lists.{All}
 use Rattle.laws.proofs.Lists.{all-map}
 use Rattle.chart.specs.declared.Answer.the-variants.{Ready}
+use Rattle.chart.specs.declared.Setting.{Setting}
 use Rattle.graph.specs.Laws.{Laws}
 use Rattle.graph.proofs.Gathers.{graph-laws}
 use Rattle.graph.proofs.CountLaws.{sources-most, cuts-most}
@@ -169,24 +170,24 @@ module _ (s : SheetRecord) (o : soundOf s ≡ true) where
   sound-text-most = omega (arith, sound-text, near .few, near .thin)
 
 -- ---- a chart's own sheet: every halfway height is whole
-module _ (s : List ℕ) (x y : ℕ) (sh : Sheet) (e : sheeted s x y ≡ ready sh) where
+module _ (v : Setting) (s : List ℕ) (x y : ℕ) (sh : Sheet) (e : sheeted v s x y ≡ ready sh) where
   o : soundOf (recordOf sh x y) ≡ true
-  o = sheet-sound s x y sh e
+  o = sheet-sound v s x y sh e
 
-  d : Drawing s x y sh
-  d = drawing s x y sh e
+  d : Drawing v s x y sh
+  d = drawing v s x y sh e
 
-  laws : Laws s (d .dag)
-  laws = graph-laws s (d .dag) (d .walked)
+  laws : Laws v s (d .dag)
+  laws = graph-laws v s (d .dag) (d .walked)
 
   h : Held (d .dag) sh
-  h = subst (Held (d .dag)) (sym (d .is)) (held s (d .dag) (d .walked))
+  h = subst (Held (d .dag)) (sym (d .is)) (held v s (d .dag) (d .walked))
 
   pub few-boxes : length (sh .boxes) ≤ 48
   few-boxes = omega (arith, h .count, laws .boxes)
 
   pub few-curves : length (curves sh) ≤ 87
-  few-curves = omega (arith, h .drawn, sources-most s (d .dag) laws, cuts-most s (d .dag) laws)
+  few-curves = omega (arith, h .drawn, sources-most v s (d .dag) laws, cuts-most v s (d .dag) laws)
 
   halfway-seven : (c : Curve) → CurveOn (sh .width) (sh .height) c → Halfway y 7 c
   halfway-seven c i =
@@ -228,23 +229,23 @@ curves-whole x y w t (c ∷ cs) a =
     let e : Even (y + c .y0 + (y + c .y1)) = omega (arith, a .0 .even-top, a .0 .even-bottom) in
     ((omega arith, (omega arith, tt)), ((omega arith, (e, (omega arith, (e, (omega arith, (omega arith, tt)))))), curves-whole x y w t cs (a .1)))
 
-pub sheet-whole : (s : List ℕ) (x y : ℕ) (sh : Sheet) → sheeted s x y ≡ ready sh → All Whole (drawnOf (recordOf sh x y))
+pub sheet-whole : (v : Setting) (s : List ℕ) (x y : ℕ) (sh : Sheet) → sheeted v s x y ≡ ready sh → All Whole (drawnOf (recordOf sh x y))
 unfolding drawnOf recordOf
-sheet-whole s x y sh e =
+sheet-whole v s x y sh e =
     boxes-whole x y (boxesOf (recordOf sh x y)) (joined (curveDrawn x y) (curvesOf (recordOf sh x y)))
-    (rw (curves-own s x y sh e) (curves-whole x y (sh .width) (sh .height) (curves sh) (h s x y sh e .curves-in)))
+    (rw (curves-own v s x y sh e) (curves-whole x y (sh .width) (sh .height) (curves sh) (h v s x y sh e .curves-in)))
 
 -- the text of a chart's sheet has at most 9,467 bytes
-module _ (s : List ℕ) (x y : ℕ) (a : Outcome) (i : IsSheet s x y a) (q : a .answer ≡ Ready) where
+module _ (v : Setting) (s : List ℕ) (x y : ℕ) (a : Outcome) (i : IsSheet v s x y a) (q : a .answer ≡ Ready) where
   pub own-text-most : length (textOf (drawnOf (a .sheet))) ≤ 9467
   own-text-most =
-      let w : Own s x y (a .sheet) = own s x y a (i .whole) q in
-      subst (λ (r : SheetRecord). length (textOf (drawnOf r)) ≤ 9467) (sym (w .is)) (sheet-text-most s x y (w .sheet) (w .laid))
+      let w : Own v s x y (a .sheet) = own v s x y a (i .whole) q in
+      subst (λ (r : SheetRecord). length (textOf (drawnOf r)) ≤ 9467) (sym (w .is)) (sheet-text-most v s x y (w .sheet) (w .laid))
 
   -- so a buffer of that length is never too short
   pub own-written : (buf : List ℕ) → 9467 ≤ length buf → writtenOf buf (sheetAnswer (a .sheet)) ≡ Done (length (textOf (drawnOf (a .sheet))))
-  own-written buf l = own-serves s x y a i q .text buf (omega (arith, own-text-most))
+  own-written buf l = own-serves v s x y a i q .text buf (omega (arith, own-text-most))
 
   -- and every number in it is whole
   pub own-whole : All Whole (drawnOf (a .sheet))
-  own-whole = let w : Own s x y (a .sheet) = own s x y a (i .whole) q in subst (λ (r : SheetRecord). All Whole (drawnOf r)) (sym (w .is)) (sheet-whole s x y (w .sheet) (w .laid))
+  own-whole = let w : Own v s x y (a .sheet) = own v s x y a (i .whole) q in subst (λ (r : SheetRecord). All Whole (drawnOf r)) (sym (w .is)) (sheet-whole v s x y (w .sheet) (w .laid))

@@ -1,11 +1,11 @@
 -- The answers of the operations on a path text, from the verdict and what the pass kept. Assumes nothing.
 use mathlib.Core.Path.{_≡_, refl, sym, ap, _∙_}
 use mathlib.Core.List.{List}
-use Prim.Native.Nat.{ℕ, suc, _+_, _≤_, _<_}
+use Prim.Native.Nat.{ℕ, _+_, _≤_, _<_}
+use native.Mathlib.Nat.{zero-add}
 use native.Mathlib.Omega.{arith}
 use borrow.Author.Tests.{lt-ltb, le-ltb}
 use lib.ListN.{length, getD, take, set}
-use lib.Seq.{take-suc, length-take-le}
 use Rattle.path.specs.declared.reader.Verdict.{Verdict}
 use Rattle.path.specs.declared.reader.Verdict.the-variants.{Fine, Refused}
 use Rattle.path.specs.declared.pass.Pass.{Pass}
@@ -21,7 +21,7 @@ use Rattle.path.specs.code.Pass.{passTo, drawnSix}
 use Rattle.path.specs.Writer.{put}
 use Rattle.path.specs.Answers.{countOf, givenOf, writtenOf, leftOf}
 use Rattle.path.proofs.Readings.{read-text}
-use Rattle.path.proofs.Puts.{put-after, refuses, does}
+use Rattle.path.proofs.Puts.{put-next, refuses, does}
 use Rattle.path.proofs.Wholes.{read-given, count-given, kept-given, range-given}
 
 module _ (k : ℕ) (s : List ℕ) (m : Pass) (v : Verdict) (e : m ≡ passTo k s (length s)) (f : v ≡ verdictOf (length s) (m .stand)) where
@@ -68,9 +68,4 @@ module _ (k : ℕ) (s : List ℕ) (m : Pass) (v : Verdict) (e : m ≡ passTo k s
 
 -- ---- a copy, byte by byte
 pub copy-next : (s buf : List ℕ) (i : ℕ) → i < length s → set (put buf 0 (take i s)) i (getD s i 0) ≡ put buf 0 (take (i + 1) s)
-copy-next s buf i h =
-    let e : i ≡ 0 + length (take i s) = omega (arith, length-take-le i s (omega arith)) in
-    let j : i + 1 ≡ suc i = omega arith in
-    ap (λ (z : ℕ). set (put buf 0 (take i s)) z (getD s i 0)) e
-    ∙ put-after (take i s) buf 0 (getD s i 0)
-    ∙ ap (put buf 0) (sym (take-suc s i 0 h) ∙ ap (λ (z : ℕ). take z s) (sym j))
+copy-next s buf i h = ap (λ (z : ℕ). set (put buf 0 (take i s)) z (getD s i 0)) (sym (zero-add i)) ∙ put-next s buf 0 i h

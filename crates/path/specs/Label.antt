@@ -1,14 +1,15 @@
--- A label's text: 'a part of the chart or of the stand-in table, not a copy; that table, lent beside the chart, is the fixed texts `#0` to `#31`, end to end'.
+-- A label's text: 'a part of the chart or of the stand-in table, not a copy; that table, lent beside the chart, is the fixed texts `#0` to `#31`, end to end';
+-- 'the stand-in table gains `#1(invalid)` to `#255(invalid)` after `#31`' (document 02, L5).
 -- A part is of bytes, both bytes of a degree sign among them.
 -- Assumes nothing.
 use Prim.Native.Nat.{ℕ, zero, suc, _+_, _-_, _*_, _≤_}
 use mathlib.Core.Path.{_≡_}
 use mathlib.Core.Bool.{Bool, true, false, cond, _&&_}
 use mathlib.Core.List.{List, [], _∷_, _++_}
-use lib.Dec.{leb}
+use lib.Dec.{leb, ltb}
 use lib.ListN.{length, take, drop}
 use denote.Ref.{RefT}
-use Rattle.laws.specs.Bytes.{same}
+use Rattle.laws.specs.Bytes.{ascii, same}
 use Rattle.chart.specs.declared.Answer.{Answer}
 use Rattle.chart.specs.declared.Answer.the-variants.{Ready, Refused}
 use Rattle.chart.specs.Text.{Texted, charactersIn, ending}
@@ -48,21 +49,29 @@ IsAt (table a e) x y r = IsPart y a e r
 
 -- ---- the stand-in table
 -- 'A pointer's Debug text is `#` and the decimal number'
-abbrev pub standIn : ℕ → List ℕ
-standIn q = 35 ∷ digits q
+abbrev pub debugText : ℕ → List ℕ
+debugText q = 35 ∷ digits q
 
--- those of the numbers below n, end to end
-unfoldable pub standInsTo : ℕ → List ℕ
-standInsTo zero = []
-standInsTo (suc n) = standInsTo n ++ standIn n
+-- text j: `#0` to `#31`, and after them `#1(invalid)` to `#255(invalid)`
+unfoldable pub standIn : ℕ → List ℕ
+standIn j = cond (ltb j 32) (debugText j) (debugText (j - 31) ++ ascii "(invalid)")
 
--- `#0` to `#31`
+-- k texts from text j on, end to end
+unfoldable pub standInsFrom : ℕ → ℕ → List ℕ
+standInsFrom zero j = []
+standInsFrom (suc k) j = standIn j ++ standInsFrom k (suc j)
+
+-- those before text j
+abbrev pub standInsTo : ℕ → List ℕ
+standInsTo j = standInsFrom j 0
+
+-- all 287
 unfoldable pub standIns : List ℕ
-standIns = standInsTo 32
+standIns = standInsTo 287
 
--- where `#q` stands: after those before it
+-- where text j stands: after those before it
 abbrev pub standInSpan : ℕ → Span
-standInSpan q = record { at = length (standInsTo q); end = length (standInsTo q) + length (standIn q) }
+standInSpan j = record { at = length (standInsTo j); end = length (standInsTo j) + length (standIn j) }
 
 -- ---- what the two calls answer, by the label that the chart has or by its refusal
 -- 15: 'or a lent table that isn't the fixed texts', even if the label's text is in the chart; 1 to 14 come first

@@ -4,15 +4,18 @@ use Prim.Native.Nat.{ℕ, _+_}
 use Prim.Native.String.{String}
 use mathlib.Core.Path.{_≡_, refl}
 use mathlib.Core.Bool.{Bool, true, cond, _&&_}
-use mathlib.Core.List.{List, [], _∷_}
+use mathlib.Core.List.{List, [], _∷_, _++_}
+use lib.ListN.{take, drop}
 use Rattle.laws.specs.Bytes.{ascii, hex, allOf, same}
 use Rattle.laws.specs.Each.{each}
 use Rattle.chart.specs.declared.Answer.{Answer}
 use Rattle.chart.specs.declared.Answer.the-variants.{Ready, Refused}
+use Rattle.chart.specs.declared.Setting.the-variants.{Default, Strict}
 use Rattle.chart.specs.Chart.{chart as chartOf}
 use Rattle.chart.specs.Text.{ending}
 use Rattle.graph.specs.Shape.{shapeOf}
 use Rattle.graph.specs.Completion.{complete}
+use Rattle.graph.specs.Joining.{joined, uncut}
 use Rattle.graph.specs.Cutting.{reached, cutting}
 use Rattle.graph.specs.Graphed.{graphed}
 use Rattle.order.specs.Against.{all}
@@ -27,7 +30,7 @@ use Rattle.grid.specs.Labelled.{Labelled, labelled}
 use Rattle.path.specs.declared.LabelAnswer.{LabelAnswer}
 use Rattle.path.specs.declared.LabelSpan.{LabelSpan}
 use Rattle.path.specs.Number.{digits}
-use Rattle.path.specs.Label.{Place, chart, table, textAt, standInsTo, standIns, labelAnswerOf, labelPartOf, labelSpanOf}
+use Rattle.path.specs.Label.{Place, chart, table, textAt, standIn, standInsFrom, standIns, labelAnswerOf, labelPartOf, labelSpanOf}
 
 -- 0 0 or the refusal's two numbers, then place, size and width
 abbrev numbersBy : Answer → List ℕ → List ℕ
@@ -46,9 +49,20 @@ spot (table a e) = 1 ∷ a ∷ e ∷ []
 abbrev spanSpot : LabelSpan → List ℕ
 spanSpot r = cond (r .fixed) 1 0 ∷ r .at ∷ (r .at + r .len) ∷ []
 
+-- the stand-in table; with its last byte changed; one byte shorter; `#0` to `#31` alone; nothing
+data Table : Type 0 where
+  fixed wrong short old none : Table
+
+tableOf : Table → List ℕ
+tableOf fixed = standIns
+tableOf wrong = take 3292 standIns ++ (42 ∷ [])
+tableOf short = take 3292 standIns
+tableOf old = take 86 standIns
+tableOf none = []
+
 data Case : Type 0 where
-  -- the chart in hexadecimal, the origin, the table, the box and the label; the answer's numbers, the part and its text
-  is : String → ℕ → ℕ → String → ℕ → ℕ → List ℕ → List ℕ → String → Case
+  -- the chart in hexadecimal, the origin, the table, the box and the label; the answer's numbers, the part and its text: in the strict setting, and in the default one
+  is lead : String → ℕ → ℕ → Table → ℕ → ℕ → List ℕ → List ℕ → String → Case
   -- at origin 0 0 and with the stand-in table; the text in hexadecimal
   sign : String → ℕ → ℕ → List ℕ → List ℕ → String → Case
 
@@ -57,19 +71,10 @@ agree s t l ns ps w =
     same (numbers (labelAnswerOf t l)) ns
     && (same (spot (labelPartOf s t l)) ps && (same (spanSpot (labelSpanOf s t l)) ps && same (textAt s t (labelPartOf s t l)) w))
 
--- the stand-in table; with one byte changed; one byte shorter
-abbrev fixed : String
-fixed = "#0#1#2#3#4#5#6#7#8#9#10#11#12#13#14#15#16#17#18#19#20#21#22#23#24#25#26#27#28#29#30#31"
-
-abbrev wrong : String
-wrong = "#0#1#2#3#4#5#6#7#8#9#10#11#12#13#14#15#16#17#18#19#20#21#22#23#24#25#26#27#28#29#30#32"
-
-abbrev short : String
-short = "#0#1#2#3#4#5#6#7#8#9#10#11#12#13#14#15#16#17#18#19#20#21#22#23#24#25#26#27#28#29#30#3"
-
 holds : Case → Bool
-holds (is s x y t k i ns ps w) = agree (hex s) (ascii t) (labelled (hex s) x y k i) ns ps (ascii w)
-holds (sign s k i ns ps w) = agree (hex s) (ascii fixed) (labelled (hex s) 0 0 k i) ns ps (hex w)
+holds (is s x y t k i ns ps w) = agree (hex s) (tableOf t) (labelled Strict (hex s) x y k i) ns ps (ascii w)
+holds (lead s x y t k i ns ps w) = agree (hex s) (tableOf t) (labelled Default (hex s) x y k i) ns ps (ascii w)
+holds (sign s k i ns ps w) = agree (hex s) (tableOf fixed) (labelled Strict (hex s) 0 0 k i) ns ps (hex w)
 
 -- 0: src[0 "x"] lin["k"] snk[0 "ab"], which is cut; 0: src[0, 0 "abc"] lin["", "hi"]; eleven nodes, the last with a sink to itself
 abbrev three : String
@@ -93,6 +98,22 @@ leads = "0102060011000000020102c2b001026162000000"
 
 abbrev kinds : String
 kinds = "010104000102020002c2b003c2b04303616263000330c2b00000"
+
+-- with leads to nothing: 0: snk[200]; 0: src[7] snk[9]; 0: src[255] lin["k"] snk[255]; 0: snk[0, 200], of which one is cut; 0: snk[1 "a", 200 "out", 1 "b"]
+abbrev missing : String
+missing = "01010400000001c800"
+
+abbrev between : String
+between = "0101040001000107000900"
+
+abbrev ends : String
+ends = "01010400010101ff00016bff00"
+
+abbrev both : String
+both = "010104000000020000c800"
+
+abbrev texts : String
+texts = "010206001400000003010161c8036f7574010162000000"
 
 -- the numbers of a refusal, and its part
 abbrev refused : ℕ → ℕ → List ℕ
@@ -124,7 +145,8 @@ cases =
     ∷ is three 0 0 wrong 0 0 (refused 15 0) start ""
     ∷ is three 0 0 wrong 1 0 (refused 15 0) start ""
     ∷ is three 0 0 short 0 0 (refused 15 0) start ""
-    ∷ is three 0 0 "" 0 0 (refused 15 0) start ""
+    ∷ is three 0 0 none 0 0 (refused 15 0) start ""
+    ∷ is three 0 0 old 0 0 (refused 15 0) start ""
     -- the origin is not added; 14 comes before 15
     ∷ is three 8387456 8381824 fixed 0 2 (0 ∷ 0 ∷ 320 ∷ 3920 ∷ 232 ∷ 256 ∷ []) (0 ∷ 14 ∷ 16 ∷ []) "ab"
     ∷ is three 8387457 0 fixed 0 2 (refused 14 0) start ""
@@ -149,13 +171,46 @@ cases =
     ∷ sign kinds 0 4 (refused 15 0) start ""
     ∷ sign "0101040000010001c2" 0 0 (refused 9 0) start ""
     ∷ sign "0101040000010002c2" 0 0 (refused 6 0) start ""
+    -- leads to parts taken out: the box of a sink to 200; a box or a label that isn't there, and a wrong table
+    ∷ lead missing 0 0 fixed 1 0 (0 ∷ 0 ∷ 320 ∷ 3008 ∷ 464 ∷ 3328 ∷ []) (1 ∷ 2565 ∷ 2578 ∷ []) "#200(invalid)"
+    ∷ lead missing 0 0 fixed 1 1 (refused 15 0) start ""
+    ∷ lead missing 0 0 fixed 2 0 (refused 15 0) start ""
+    ∷ lead missing 0 0 wrong 1 0 (refused 15 0) start ""
+    ∷ lead missing 0 0 old 1 0 (refused 15 0) start ""
+    -- the box of a source from 200; of a sink to 1, the box's own number; two leads to 2 have two boxes
+    ∷ lead "01010400010000c800" 0 0 fixed 1 0 (0 ∷ 0 ∷ 320 ∷ 576 ∷ 464 ∷ 3328 ∷ []) (1 ∷ 2565 ∷ 2578 ∷ []) "#200(invalid)"
+    ∷ lead "010104000000010100" 0 0 fixed 1 0 (0 ∷ 0 ∷ 320 ∷ 3008 ∷ 464 ∷ 2816 ∷ []) (1 ∷ 86 ∷ 97 ∷ []) "#1(invalid)"
+    ∷ lead "010206000b0000000102000000010200" 0 0 fixed 2 0 (0 ∷ 0 ∷ 4544 ∷ 3008 ∷ 464 ∷ 2816 ∷ []) (1 ∷ 97 ∷ 108 ∷ []) "#2(invalid)"
+    ∷ lead "010206000b0000000102000000010200" 0 0 fixed 3 0 (0 ∷ 0 ∷ 320 ∷ 3008 ∷ 464 ∷ 2816 ∷ []) (1 ∷ 97 ∷ 108 ∷ []) "#2(invalid)"
+    -- a node's sinks come before its sources
+    ∷ lead between 0 0 fixed 1 0 (0 ∷ 0 ∷ 320 ∷ 5696 ∷ 464 ∷ 2816 ∷ []) (1 ∷ 174 ∷ 185 ∷ []) "#9(invalid)"
+    ∷ lead between 0 0 fixed 2 0 (0 ∷ 0 ∷ 320 ∷ 576 ∷ 464 ∷ 2816 ∷ []) (1 ∷ 152 ∷ 163 ∷ []) "#7(invalid)"
+    -- both ends to 255, the last text of the table; the node keeps its line
+    ∷ lead ends 0 0 fixed 0 0 (0 ∷ 0 ∷ 320 ∷ 3264 ∷ 464 ∷ 256 ∷ []) (0 ∷ 10 ∷ 11 ∷ []) "k"
+    ∷ lead ends 0 0 fixed 1 0 (0 ∷ 0 ∷ 320 ∷ 5952 ∷ 464 ∷ 3328 ∷ []) (1 ∷ 3280 ∷ 3293 ∷ []) "#255(invalid)"
+    ∷ lead ends 0 0 fixed 2 0 (0 ∷ 0 ∷ 320 ∷ 576 ∷ 464 ∷ 3328 ∷ []) (1 ∷ 3280 ∷ 3293 ∷ []) "#255(invalid)"
+    -- the leads' boxes come before the cut's
+    ∷ lead both 0 0 fixed 1 0 (0 ∷ 0 ∷ 2240 ∷ 5696 ∷ 464 ∷ 3328 ∷ []) (1 ∷ 2565 ∷ 2578 ∷ []) "#200(invalid)"
+    ∷ lead both 0 0 fixed 2 0 (0 ∷ 0 ∷ 320 ∷ 5696 ∷ 464 ∷ 512 ∷ []) (1 ∷ 0 ∷ 2 ∷ []) "#0"
+    ∷ lead both 0 0 fixed 3 0 (0 ∷ 0 ∷ 320 ∷ 576 ∷ 464 ∷ 512 ∷ []) (1 ∷ 0 ∷ 2 ∷ []) "#0"
+    -- the lead's text stays at its node
+    ∷ lead texts 0 0 fixed 0 1 (0 ∷ 0 ∷ 448 ∷ 464 ∷ 232 ∷ 384 ∷ []) (0 ∷ 14 ∷ 17 ∷ []) "out"
+    ∷ lead texts 0 0 fixed 2 0 (0 ∷ 0 ∷ 2368 ∷ 3008 ∷ 464 ∷ 3328 ∷ []) (1 ∷ 2565 ∷ 2578 ∷ []) "#200(invalid)"
+    -- strict refuses them, by the first target
+    ∷ is missing 0 0 fixed 1 0 (refused 12 200) start ""
+    ∷ is between 0 0 fixed 1 0 (refused 12 9) start ""
+    ∷ is between 0 0 none 0 0 (refused 12 9) start ""
     ∷ []
 
 all-hold : allOf holds cases ≡ true
-unfolding holds cases ending standIns standInsTo digits chartOf complete reached cutting graphed shapeOf each all round first weights triples chains order firstColumns heights firstMoves foldFrom average columns drawn sheetOf sheet sheetOfDag sheeted labelled
+unfolding holds cases tableOf ending standIns standInsFrom standIn digits chartOf complete joined uncut reached cutting graphed shapeOf each all round first weights triples chains order firstColumns heights firstMoves foldFrom average columns drawn sheetOf sheet sheetOfDag sheeted labelled
 all-hold = refl
 
 -- the stand-in table
-standIns-are : standIns ≡ ascii "#0#1#2#3#4#5#6#7#8#9#10#11#12#13#14#15#16#17#18#19#20#21#22#23#24#25#26#27#28#29#30#31"
-unfolding standIns standInsTo digits
-standIns-are = refl
+standIns-begin : take 97 standIns ≡ ascii "#0#1#2#3#4#5#6#7#8#9#10#11#12#13#14#15#16#17#18#19#20#21#22#23#24#25#26#27#28#29#30#31#1(invalid)"
+unfolding standIns standInsFrom standIn digits
+standIns-begin = refl
+
+standIns-end : drop 3267 standIns ≡ ascii "#254(invalid)#255(invalid)"
+unfolding standIns standInsFrom standIn digits
+standIns-end = refl

@@ -9,10 +9,12 @@ use lib.Dec.{eqb}
 use lib.ListN.{length}
 use Rattle.laws.specs.Bytes.{ascii, hex, allOf, same}
 use Rattle.laws.specs.Each.{each}
+use Rattle.chart.specs.declared.Setting.the-variants.{Strict}
 use Rattle.chart.specs.Chart.{chart}
 use Rattle.graph.specs.Graph.{nodeAt}
 use Rattle.graph.specs.Shape.{shapeOf}
 use Rattle.graph.specs.Completion.{complete}
+use Rattle.graph.specs.Joining.{joined, uncut}
 use Rattle.graph.specs.Cutting.{reached, cutting}
 use Rattle.graph.specs.Graphed.{Graphed, ready as cut, refusal as refusedGraph, graphed}
 use Rattle.order.specs.Against.{all}
@@ -74,13 +76,13 @@ noText (segments ds) n p = false
 noText (refused m q) n p = eqb m n && eqb q p
 
 unfoldable pub holds : Case → Bool
-holds (is s w h b c) = isSheet (sheeted (hex s) 0 0) w h b c
-holds (cuts s b c) = isCut (sheeted (hex s) 0 0) b c
-holds (inColumns s cs) = areColumns (sheeted (hex s) 0 0) cs
-holds (inRows s rs) = areRows (sheeted (hex s) 0 0) rs
-holds (sources s p k) = hasSources (graphed (hex s)) p k
-holds (drawnAt s x y) = isDrawn (sheeted (hex s) x y)
-holds (refusedAt s x y n p) = isRefused (sheeted (hex s) x y) n p
+holds (is s w h b c) = isSheet (sheeted Strict (hex s) 0 0) w h b c
+holds (cuts s b c) = isCut (sheeted Strict (hex s) 0 0) b c
+holds (inColumns s cs) = areColumns (sheeted Strict (hex s) 0 0) cs
+holds (inRows s rs) = areRows (sheeted Strict (hex s) 0 0) rs
+holds (sources s p k) = hasSources (graphed Strict (hex s)) p k
+holds (drawnAt s x y) = isDrawn (sheeted Strict (hex s) x y)
+holds (refusedAt s x y n p) = isRefused (sheeted Strict (hex s) x y) n p
 holds (text s n p) = noText (read (ascii s)) n p
 
 unfoldable pub starred : List Case
@@ -116,5 +118,5 @@ starred =
     []
 
 pub starred-hold : allOf holds starred ≡ true
-unfolding holds starred chart complete reached cutting graphed shapeOf each all round first weights triples chains order firstColumns heights firstMoves foldFrom average columns drawn sheetOf sheet sheetOfDag sheeted read
+unfolding holds starred chart complete joined uncut reached cutting graphed shapeOf each all round first weights triples chains order firstColumns heights firstMoves foldFrom average columns drawn sheetOf sheet sheetOfDag sheeted read
 starred-hold = refl

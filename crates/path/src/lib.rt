@@ -5,8 +5,9 @@ ghost use Rattle.path.specs.Reader.{read};
 ghost use Rattle.path.specs.Answers.{sheetAnswer};
 ghost use Rattle.path.specs.Promises.{IsSegment, IsWritten, IsReading, IsCount, IsRewritten};
 ghost use Rattle.grid.specs.Labelled.{labelled, labelOutcomeOf};
-ghost use Rattle.path.specs.Label.{tabled, labelAnswerOf, IsLabelPart, IsLabelSpan};
+ghost use Rattle.path.specs.Label.{standIns, tabled, labelAnswerOf, IsLabelPart, IsLabelSpan};
 use chart::Answer;
+use chart::Setting;
 use drawn::segment_of;
 use grid::LabelOutcome;
 use grid::SheetRecord;
@@ -14,6 +15,7 @@ use grid::sound;
 use label::is_stand_ins;
 use label::no_place;
 use label::part_of;
+use label::put_stand_in;
 use label::stand_in;
 use label::text_end;
 use pass::drawn_six;
@@ -176,11 +178,32 @@ pub fn rewrite(text: &[u8], buf: &mut [u8]) -> Written
     }
 }
 
-// Label i of box k of the chart's sheet at the origin x y, with a table lent beside the chart: 1 to 15.
-fn find_label(chart: &[u8], x: u32, y: u32, table: &[u8], k: usize, i: usize) -> LabelOutcome
-    ensures { λ r. ⌜ r ≡ labelOutcomeOf (tabled (now (table .entry)) (labelled (now (chart .entry)) x y k i)) ⌝ }
+// The stand-in table, for a program to lend: its 287 texts, end to end.
+pub fn stand_ins() -> [u8; 3293]
+    ensures { λ r. ⌜ r ≡ standIns ⌝ }
 {
-    let l = grid::label_place(chart, x, y, k, i);
+    let mut table = [0u8; 3293];
+    let mut j: u16 = 0;
+    while j < 287 {
+        put_stand_in(&mut table, j);
+        j += 1;
+    }
+    table
+}
+
+// Label i of box k of the chart's sheet at the origin x y, with a table lent beside the chart: 1 to 15.
+fn find_label(
+    chart: &[u8],
+    x: u32,
+    y: u32,
+    setting: Setting,
+    table: &[u8],
+    k: usize,
+    i: usize,
+) -> LabelOutcome
+    ensures { λ r. ⌜ r ≡ labelOutcomeOf (tabled (now (table .entry)) (labelled setting (now (chart .entry)) x y k i)) ⌝ }
+{
+    let l = grid::label_place(chart, x, y, setting, k, i);
     let answer = l.answer;
     let place = l.place;
     match answer {
@@ -206,10 +229,18 @@ fn find_label(chart: &[u8], x: u32, y: u32, table: &[u8], k: usize, i: usize) ->
 }
 
 // Where label i of box k of the chart's sheet stands, its size and its width: 1 to 15.
-pub fn label_place(chart: &[u8], x: u32, y: u32, table: &[u8], k: usize, i: usize) -> LabelAnswer
-    ensures { λ r. ⌜ r ≡ labelAnswerOf (now (table .entry)) (labelled (now (chart .entry)) x y k i) ⌝ }
+pub fn label_place(
+    chart: &[u8],
+    x: u32,
+    y: u32,
+    setting: Setting,
+    table: &[u8],
+    k: usize,
+    i: usize,
+) -> LabelAnswer
+    ensures { λ r. ⌜ r ≡ labelAnswerOf (now (table .entry)) (labelled setting (now (chart .entry)) x y k i) ⌝ }
 {
-    let l = find_label(chart, x, y, table, k, i);
+    let l = find_label(chart, x, y, setting, table, k, i);
     let answer = l.answer;
     let place = l.place;
     LabelAnswer {
@@ -226,13 +257,14 @@ pub fn label_part<'a>(
     chart: &'a [u8],
     x: u32,
     y: u32,
+    setting: Setting,
     table: &'a [u8],
     k: usize,
     i: usize,
 ) -> &'a [u8]
-    ensures { λ r. ⌜ IsLabelPart (chart .entry) (table .entry) (labelled (now (chart .entry)) x y k i) r ⌝ }
+    ensures { λ r. ⌜ IsLabelPart (chart .entry) (table .entry) (labelled setting (now (chart .entry)) x y k i) r ⌝ }
 {
-    let l = find_label(chart, x, y, table, k, i);
+    let l = find_label(chart, x, y, setting, table, k, i);
     let answer = l.answer;
     let place = l.place;
     match answer {
@@ -251,10 +283,18 @@ pub fn label_part<'a>(
 }
 
 // The same part as a place.
-pub fn label_span(chart: &[u8], x: u32, y: u32, table: &[u8], k: usize, i: usize) -> LabelSpan
-    ensures { λ r. ⌜ IsLabelSpan (now (chart .entry)) (now (table .entry)) (labelled (now (chart .entry)) x y k i) r ⌝ }
+pub fn label_span(
+    chart: &[u8],
+    x: u32,
+    y: u32,
+    setting: Setting,
+    table: &[u8],
+    k: usize,
+    i: usize,
+) -> LabelSpan
+    ensures { λ r. ⌜ IsLabelSpan (now (chart .entry)) (now (table .entry)) (labelled setting (now (chart .entry)) x y k i) r ⌝ }
 {
-    let l = find_label(chart, x, y, table, k, i);
+    let l = find_label(chart, x, y, setting, table, k, i);
     let answer = l.answer;
     let place = l.place;
     match answer {

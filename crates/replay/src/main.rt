@@ -1,4 +1,5 @@
-// Charts in hexadecimal, one on each line of standard input: the listing of each, as the program `listing` prints it, and an empty line.
+// Charts in hexadecimal, one on each line of standard input: the listing of each, as the program `listing` prints it, and an empty line. A line
+// that begins with `D` is a chart in the default setting; any other is strict.
 ghost use mathlib.Core.Path.{_≡_};
 ghost use mathlib.Core.Bool.{true};
 ghost use Prim.Native.Nat.{_≤_};
@@ -7,6 +8,7 @@ ghost use Rattle.io.specs.Counts.{Counts};
 ghost use Rattle.grid.specs.Record.{soundOf};
 ghost use Rattle.path.specs.Promises.{IsWritten};
 use chart::Answer;
+use chart::Setting;
 use grid::BoxRecord;
 use grid::SheetRecord;
 use libc::STDOUT_FILENO;
@@ -89,8 +91,8 @@ fn print_refusal(first: u8, second: u32) {
     io::write_all(STDOUT_FILENO, b"\n");
 }
 
-fn print_listing(chart: &[u8]) {
-    let r = grid::sheet(chart, 0, 0);
+fn print_listing(chart: &[u8], setting: Setting) {
+    let r = grid::sheet(chart, 0, 0, setting);
     let a = r.answer;
     let s = r.sheet;
     match a {
@@ -99,10 +101,18 @@ fn print_listing(chart: &[u8]) {
     }
 }
 
-fn print_hex(text: &[u8]) {
+// The setting of a line's chart.
+fn setting_of(line: &[u8]) -> Setting {
+    if lines::is_default(line) {
+        return Setting::Default;
+    }
+    Setting::Strict
+}
+
+fn print_hex(line: &[u8]) {
     let mut chart = [0u8; 8192];
-    let n = lines::decode(text, &mut chart);
-    print_listing(&chart[..n]);
+    let n = lines::decode(lines::digits(line), &mut chart);
+    print_listing(&chart[..n], setting_of(line));
     io::write_all(STDOUT_FILENO, b"\n");
 }
 

@@ -10,6 +10,7 @@ use borrow.Author.Tests.{ne-eqb}
 use Rattle.laws.proofs.Tests.{less?}
 use Rattle.chart.specs.declared.Answer.{Answer}
 use Rattle.chart.specs.declared.Answer.the-variants.{Ready, Refused}
+use Rattle.chart.specs.declared.Setting.the-variants.{Strict}
 use Rattle.chart.specs.Chart.{Reading, ready as accepted, refusal as refused, chart}
 use Rattle.graph.specs.declared.Item.{Item}
 use Rattle.graph.specs.declared.Tables.{Tables}
@@ -76,7 +77,7 @@ module _ (s : List ℕ) (o : Outcome) (is : IsAnswer (completed s) o) where
 
   pub signal-ready : o .answer ≡ Ready → (r : SignalOrder) → r ≡ outcomeOf (signalled (shapeOf (graphOf (o .graph)))) → r ≡ outcomeOf (signal s)
   unfolding signal completed
-  signal-ready a r w = w ∙ ap outcomeOf (held-by (chart s) (answers Ready a))
+  signal-ready a r w = w ∙ ap outcomeOf (held-by (chart Strict s) (answers Ready a))
 
   refused-by : (x y : ℕ) (c : Reading) → turned x y ≡ completing c → refusal x y ≡ signals c
   refused-by x y (accepted ps) e = absurd (not-turned (record { graph = complete (givenGraph ps); cuts = 0 }) x y (sym e))
@@ -84,4 +85,4 @@ module _ (s : List ℕ) (o : Outcome) (is : IsAnswer (completed s) o) where
 
   pub signal-refused : (x y : ℕ) → o .answer ≡ Refused x y → (r : SignalOrder) → r ≡ outcomeOf (refusal x y) → r ≡ outcomeOf (signal s)
   unfolding signal completed
-  signal-refused x y a r w = w ∙ ap outcomeOf (refused-by x y (chart s) (answers (Refused x y) a))
+  signal-refused x y a r w = w ∙ ap outcomeOf (refused-by x y (chart Strict s) (answers (Refused x y) a))

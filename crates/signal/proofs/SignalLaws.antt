@@ -21,6 +21,7 @@ use Rattle.walks.proofs.Few.{has-more, has-first, distinct-one, every, few, man
 use Rattle.walks.proofs.WalkLaws.{walk-cycle, walk-enough, no-cycle, cycle-by, cycle-all}
 use Rattle.chart.specs.declared.Answer.{Answer}
 use Rattle.chart.specs.declared.Answer.the-variants.{Ready, Refused}
+use Rattle.chart.specs.declared.Setting.the-variants.{Strict}
 use Rattle.chart.specs.Chart.{Board, Reading, ready as accepted, refusal as unread, chart}
 use Rattle.chart.specs.Read.{numbersOf}
 use Rattle.graph.specs.Graph.{Edge, Node, Graph, bare, givenGraph, nodeAt, leadsTo}
@@ -319,17 +320,17 @@ module _ (g : Graph) where
 
 -- ---- the promise, from the answer's equation alone
 module _ (s : List ℕ) (r : SignalOrder) (w : r ≡ outcomeOf (signal s)) where
-  read-is : (c : Reading) → chart s ≡ c → r ≡ outcomeOf (signals c)
+  read-is : (c : Reading) → chart Strict s ≡ c → r ≡ outcomeOf (signals c)
   unfolding signal
   read-is c e = w ∙ ap (λ (x : Reading). outcomeOf (signals x)) e
 
-  accepts : (ps : Board) → chart s ≡ accepted ps → (r .count ≤ 32) × Signals s (completedOf ps) r
+  accepts : (ps : Board) → chart Strict s ≡ accepted ps → (r .count ≤ 32) × Signals s (completedOf ps) r
   accepts ps e =
       let g : Graph = complete (givenGraph ps) in
       let l : CompletedLaws s (givenGraph ps) g = completed-laws s ps e in
       says (shapeOf g) (shape-inside g (l .aimed)) (shape-both g (l .both)) s (shape-long g ∙ l .nodes) (omega (arith, shape-long g, l .few)) r (read-is (accepted ps) e)
 
-  count-few : (c : Reading) → chart s ≡ c → r .count ≤ 32
+  count-few : (c : Reading) → chart Strict s ≡ c → r .count ≤ 32
   count-few (accepted ps) e = accepts ps e .0
   count-few (unread a b) e = omega (arith, ap (λ (o : SignalOrder). o .count) (read-is (unread a b) e))
 
@@ -337,7 +338,7 @@ module _ (s : List ℕ) (r : SignalOrder) (w : r ≡ outcomeOf (signal s)) where
   is-signal-order =
       record {
         whole = w;
-        few = count-few (chart s) refl;
+        few = count-few (chart Strict s) refl;
         refused = λ a b e. ap (λ (o : SignalOrder). numbersOf (o .answer)) (read-is (unread a b) e);
         laws = λ ps e. accepts ps e .1;
       }

@@ -9,6 +9,7 @@ use lib.ListN.{length, getD, take}
 use Rattle.laws.specs.Lists.{All, has, placeOf}
 use Rattle.walks.specs.Walks.{Distinct, Cycle}
 use Rattle.chart.specs.declared.Answer.the-variants.{Ready, Refused}
+use Rattle.chart.specs.declared.Setting.the-variants.{Strict}
 use Rattle.chart.specs.Chart.{Board, ready as accepted, refusal as unread, chart}
 use Rattle.chart.specs.Read.{numbers, numbersOf}
 use Rattle.graph.specs.Shape.{Shape, incidentsAt}
@@ -60,5 +61,5 @@ pub record IsSignalOrder (s : List ℕ) (r : SignalOrder) : Type 0 where
   -- whatever the chart, the nodes are in the array
   pub few : r .count ≤ 32
   -- a chart that 1 to 12 refuses: document 01's two numbers
-  pub refused : (number second : ℕ) → chart s ≡ unread number second → numbersOf (r .answer) ≡ numbers number second
-  pub laws : (board : Board) → chart s ≡ accepted board → Signals s (completedOf board) r
+  pub refused : (number second : ℕ) → chart Strict s ≡ unread number second → numbersOf (r .answer) ≡ numbers number second
+  pub laws : (board : Board) → chart Strict s ≡ accepted board → Signals s (completedOf board) r

@@ -9,6 +9,7 @@ use Rattle.laws.specs.Bytes.{allOf}
 use Rattle.laws.specs.Each.{each}
 use Rattle.laws.specs.Lists.{has, one}
 use Rattle.walks.specs.Walks.{walk}
+use Rattle.chart.specs.declared.Setting.the-variants.{Strict}
 use Rattle.chart.specs.Chart.{Board, Reading, ready as accepted, refusal as refused, chart}
 use Rattle.graph.specs.Graph.{givenGraph}
 use Rattle.graph.specs.Completion.{complete}
@@ -87,7 +88,7 @@ abbrev pub signals : Reading → Signalled
 signals (accepted ps) = signalled (completedOf ps)
 signals (refused number second) = refusal number second
 
--- the signal order of a chart's bytes, or the first of the refusals 1 to 12 and 20
+-- the signal order of a chart's bytes, or the first of the refusals 1 to 12 and 20. Document 02, L5: 'the order of L2 relied on the old default and now use strict'
 unfoldable pub signal : List ℕ → Signalled
 unfolding chart complete shapeOf listed backFrom
-signal s = signals (chart s)
+signal s = signals (chart Strict s)

@@ -1,4 +1,4 @@
-// Document 02, L2: the signal order of a chart's nodes, or a cycle.
+// Document 02, L2: the signal order of a chart's nodes, or a cycle. The chart is read in the strict setting (L5).
 ghost use mathlib.Core.Path.{_≡_};
 ghost use Prim.Native.Nat.{_≤_};
 ghost use lib.ListN.{take};

@@ -1,6 +1,7 @@
 // Reads charts in hexadecimal, one on each line, and prints for each what the stages below the sheet make of it: the completed graph, the
 // cut graph and the first columns, or the refusal of each. The form of a line is that of the instrumented Rust (differential/README.md, `--stages`).
 use chart::Answer;
+use chart::Setting;
 use graph::Item;
 use graph::Table;
 use graph::Tables;
@@ -101,7 +102,7 @@ fn print_completed(bytes: &[u8]) {
 }
 
 fn print_cut(bytes: &[u8]) {
-    let r = graph::graph(bytes);
+    let r = graph::graph(bytes, Setting::Strict);
     let a = r.answer;
     match a {
         Answer::Ready => {
@@ -116,7 +117,7 @@ fn print_cut(bytes: &[u8]) {
 }
 
 fn print_first(bytes: &[u8]) {
-    let r = order::order(bytes);
+    let r = order::order(bytes, Setting::Strict);
     let a = r.answer;
     match a {
         Answer::Ready => {

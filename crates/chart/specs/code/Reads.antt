@@ -13,8 +13,9 @@ use Rattle.chart.specs.declared.Board.{Board as Tables}
 use Rattle.chart.specs.declared.Answer.{Answer}
 use Rattle.chart.specs.declared.Answer.the-variants.{Ready, Refused}
 use Rattle.chart.specs.declared.Outcome.{Outcome}
+use Rattle.chart.specs.declared.Setting.{Setting}
 use Rattle.chart.specs.declared.reader.Nodes.{Nodes}
-use Rattle.chart.specs.Chart.{Board, Reading, ready, refusal, targetsOf, firstOutside, chart}
+use Rattle.chart.specs.Chart.{Board, Reading, ready, refusal, targetsOf, outsideIn, chart}
 use Rattle.chart.specs.code.Filled.{emptyBoard, itemsOf, linesOf, boardOf, tablesOf}
 use Rattle.laws.specs.Lists.{All}
 use Rattle.chart.specs.Accepted.{Accepted}
@@ -33,26 +34,26 @@ abbrev pub readOf : Reading → Outcome
 readOf (ready ps) = record { answer = Ready; board = tablesOf (length ps) ps }
 readOf (refusal number second) = record { answer = Refused number second; board = emptyBoard 0 }
 
--- a record's owner and target are nodes
-abbrev pub Joins : ℕ → Item → Type 0
-Joins n x = (x .owner < n) × (x .to < n)
+-- a record's owner is a node
+abbrev pub Owned : ℕ → Item → Type 0
+Owned n x = x .owner < n
 
--- the tables, for the crates above: the counts are within the arrays, each owner and each target is a node
+-- the tables, for the crates above: the counts are within the arrays, each owner is a node
 pub record Sound (b : Tables) : Type 0 where
   pub nodes : b .n ≤ 32
   pub ends : b .sources .count + b .sinks .count ≤ 64
   pub lines : b .lines .count ≤ 128
-  pub sources : All (Joins (b .n)) (itemsOf (b .sources))
+  pub sources : All (Owned (b .n)) (itemsOf (b .sources))
   pub owners : All (λ (x : Line). x .owner < b .n) (linesOf (b .lines))
-  pub sinks : All (Joins (b .n)) (itemsOf (b .sinks))
+  pub sinks : All (Owned (b .n)) (itemsOf (b .sinks))
 
-pub record Reads (s : List ℕ) (r : Outcome) : Type 0 where
+pub record Reads (w : Setting) (s : List ℕ) (r : Outcome) : Type 0 where
   -- the answer and the board are exactly the definition's
-  pub reads : readingOf r ≡ chart s
+  pub reads : readingOf r ≡ chart w s
   -- every field, past the counts too
-  pub whole : r ≡ readOf (chart s)
+  pub whole : r ≡ readOf (chart w s)
   -- an accepted chart is within document 01's limits
-  pub limits : r .answer ≡ Ready → Accepted s (boardOf (r .board))
+  pub limits : r .answer ≡ Ready → Accepted w s (boardOf (r .board))
   -- the tables, whether accepted or not
   pub sound : Sound (r .board)
 
@@ -61,14 +62,14 @@ abbrev pub answered : Tables → Option ℕ → Outcome
 answered b none = record { answer = Ready; board = b }
 answered b (some t) = readOf (refusal 12 t)
 
-unfoldable pub judgedOf : Tables → Outcome
-judgedOf b =
+unfoldable pub judgedOf : Setting → Tables → Outcome
+judgedOf w b =
     cond (leb (b .sources .count) 64)
     (cond (leb (b .sinks .count) (64 - b .sources .count))
-    (answered b (firstOutside (targetsOf (boardOf b)) (b .n)))
+    (answered b (outsideIn w (targetsOf (boardOf b)) (b .n)))
     (readOf (refusal 11 0)))
     (readOf (refusal 11 0))
 
 -- 10, and then 11 and 12, of the nodes of a chart of k bytes
-abbrev pub closedOf : Nodes → ℕ → Outcome
-closedOf r k = cond (ltb (r .end) k) (readOf (refusal 10 0)) (judgedOf (r .board))
+abbrev pub closedOf : Setting → Nodes → ℕ → Outcome
+closedOf w r k = cond (ltb (r .end) k) (readOf (refusal 10 0)) (judgedOf w (r .board))

@@ -6,6 +6,9 @@ use borrow.Author.Needs.{needs}
 use Rattle.full.proofs.print_hex.Statement.{statement}
 use Rattle.full.proofs.print_hex.Tie as tie
 
+digits-requires : tie.Need-digits-requires
+digits-requires c κs = search needs
+
 slice-aggregate-decode : tie.Need-slice-aggregate-decode
 slice-aggregate-decode c = search needs
 
@@ -17,6 +20,9 @@ array-share-prefix-chart c = search needs
 
 slice-aggregate-print-chart : tie.Need-slice-aggregate-print-chart
 slice-aggregate-print-chart c = sym (length-take-le _ _ (c .before .before .decode .ensures .1 .1))
+
+setting-of-requires : tie.Need-setting-of-requires
+setting-of-requires c κs = search needs
 
 print-chart-requires : tie.Need-print-chart-requires
 print-chart-requires c κs = search needs
@@ -34,10 +40,12 @@ pub print-hex-spec : {M : Type 1} → statement M
 print-hex-spec =
     tie.close
     (tie.spec
+    digits-requires
     slice-aggregate-decode
     decode-requires
     array-share-prefix-chart
     slice-aggregate-print-chart
+    setting-of-requires
     print-chart-requires
     slice-aggregate-put
     put-requires

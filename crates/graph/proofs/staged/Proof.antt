@@ -12,7 +12,7 @@ enum-told : tie.Need-enum-told
 enum-told c = search needs
 
 drawn-requires : tie.Need-drawn-requires
-drawn-requires c κs = let h = c .before .before .before in read-held (h .before .before .args .chart .now) (h .read .result) (h .read .ensures) (c .enum-told .given .1)
+drawn-requires c κs = let h = c .before .before .before in read-held (h .before .before .args .setting) (h .before .before .args .chart .now) (h .read .result) (h .read .ensures) (c .enum-told .given .1)
 
 enum-known-answer : tie.Need-enum-known-answer
 enum-known-answer c = search needs
@@ -24,14 +24,14 @@ returns : tie.Need-returns
 returns c =
     let h = c .before .before .before .before in
     let s = h .before .before .args .chart .now in
-    stage-read s (h .read .result) (h .read .ensures) (h .before .before .args .cut) (c .before .enum-told .given .1) (c .drawn .result) (c .drawn .ensures)
+    stage-read (h .before .before .args .setting) s (h .read .result) (h .read .ensures) (h .before .before .args .cut) (c .before .enum-told .given .1) (c .drawn .result) (c .drawn .ensures)
 
 returns-2 : tie.Need-returns-2
 returns-2 c =
     let h = c .before .before .before .before .before in
     let a = c .before .before .answer .given in
     let s = h .before .before .args .chart .now in
-    stage-not s (h .read .result) (h .read .ensures) (h .before .before .args .cut) (a .0 .0) (a .0 .1 .0) (a .1) (c .refused .result) (c .refused .ensures)
+    stage-not (h .before .before .args .setting) s (h .read .result) (h .read .ensures) (h .before .before .args .cut) (a .0 .0) (a .0 .1 .0) (a .1) (c .refused .result) (c .refused .ensures)
 
 pub staged-spec : {M : Type 1} → statement M
 staged-spec =

@@ -16,9 +16,10 @@ first-in-requires c κs = search needs
 sheet-of-requires : tie.Need-sheet-of-requires
 sheet-of-requires c κs =
     let h = c .before in
+    let w = h .before .before .args .setting in
     let s = h .before .before .args .chart .now in (
-      seated s (h .graph .result) (graphs-of _ _ (h .graph .ensures)) (c .first-in .result) (c .first-in .ensures),
-      firsts-are s (h .graph .result) (graphs-of _ _ (h .graph .ensures)) (c .first-in .result) (c .first-in .ensures),
+      seated w s (h .graph .result) (graphs-of _ _ _ (h .graph .ensures)) (c .first-in .result) (c .first-in .ensures),
+      firsts-are w s (h .graph .result) (graphs-of _ _ _ (h .graph .ensures)) (c .first-in .result) (c .first-in .ensures),
     )
 
 returns : tie.Need-returns
@@ -26,8 +27,8 @@ returns c =
     let f = c .before .first-in in
     let h = c .before .before in
     let a = h .before .before .args in
-    is-sheet (a .chart .now) (a .x) (a .y) (c .sheet-of .result)
-    (sheet-is (a .chart .now) (a .x) (a .y) (h .graph .result) (graphs-of _ _ (h .graph .ensures)) (f .result) (f .ensures) (c .sheet-of .result) (c .sheet-of .ensures))
+    is-sheet (a .setting) (a .chart .now) (a .x) (a .y) (c .sheet-of .result)
+    (sheet-is (a .setting) (a .chart .now) (a .x) (a .y) (h .graph .result) (graphs-of _ _ _ (h .graph .ensures)) (f .result) (f .ensures) (c .sheet-of .result) (c .sheet-of .ensures))
 
 pub sheet-spec : {M : Type 1} → statement M
 sheet-spec = tie.close (tie.spec graph-requires first-in-requires sheet-of-requires returns)

@@ -1,16 +1,13 @@
 -- How the code finds a label: in one list of ends or lines after another.
 -- Assumes nothing.
-use Prim.Native.Nat.{ℕ, _-_, _≤_}
+use Prim.Native.Nat.{ℕ, _+_, _-_}
 use mathlib.Core.Bool.{cond}
 use mathlib.Core.List.{List, map}
 use lib.Dec.{ltb}
-use lib.ListN.{length, getD}
-use Rattle.graph.specs.Graph.{Node, Graph, nodeAt}
-use Rattle.grid.specs.declared.BoxRecord.{BoxRecord}
-use Rattle.grid.specs.declared.SheetRecord.{SheetRecord}
+use lib.ListN.{length}
+use Rattle.graph.specs.Graph.{Node}
 use Rattle.grid.specs.declared.LabelPlace.{LabelPlace}
 use Rattle.grid.specs.declared.label.Seek.{Seek}
-use Rattle.grid.specs.Record.{noBox}
 use Rattle.grid.specs.RenderNode.{Text, drawn}
 use Rattle.grid.specs.RenderGrid.{textMoved}
 use Rattle.grid.specs.Labels.{noLabel, labelAt}
@@ -21,17 +18,12 @@ use Rattle.grid.specs.Labels.{noLabel, labelAt}
 abbrev pub nodeLabel : Node → ℕ → ℕ → ℕ → LabelPlace
 nodeLabel n x y i = labelAt (map (textMoved x y) (drawn n .texts)) i
 
--- label i of box k, with the places of a sheet's record
-abbrev pub labelFrom : Graph → ℕ → SheetRecord → ℕ → ℕ → LabelPlace
-labelFrom g n s k i = cond (ltb k n) (nodeLabel (nodeAt g k) (getD (s .boxes) k noBox .x) (getD (s .boxes) k noBox .y) i) noLabel
+-- the number of a name's text among the fixed texts: `#q` is text q, and `#t(invalid)`, held as 256 + t, is text t + 31
+abbrev pub fixedNumber : ℕ → ℕ
+fixedNumber m = cond (ltb m 256) m (m - 256 + 31)
 
 abbrev pub notHere : ℕ → Seek
 notHere left = record { place = noLabel; left = left }
 
 abbrev pub seek : List Text → ℕ → Seek
 seek ts i = record { place = labelAt ts i; left = i - length ts }
-
--- the box's place is small enough for the sums
-pub record Sited (b : BoxRecord) : Type 0 where
-  pub across : b .x ≤ 1250000000
-  pub down : b .y ≤ 1250000000

@@ -13,7 +13,7 @@ enum-told : tie.Need-enum-told
 enum-told c = search needs
 
 drawn-requires : tie.Need-drawn-requires
-drawn-requires c κs = graphs-of _ _ (c .before .before .before .graph .ensures) .sound .linked
+drawn-requires c κs = graphs-of _ _ _ (c .before .before .before .graph .ensures) .sound .linked
 
 enum-known-answer : tie.Need-enum-known-answer
 enum-known-answer c = search needs
@@ -24,13 +24,13 @@ refused-requires c κs = search needs
 returns : tie.Need-returns
 returns c =
     let h = c .before .before .before .before in
-    order-ready (h .before .before .args .chart .now) (h .graph .result) (graphs-of _ _ (h .graph .ensures)) (c .before .enum-told .given .1) (c .drawn .result) (c .drawn .ensures)
+    order-ready (h .before .before .args .setting) (h .before .before .args .chart .now) (h .graph .result) (graphs-of _ _ _ (h .graph .ensures)) (c .before .enum-told .given .1) (c .drawn .result) (c .drawn .ensures)
 
 returns-2 : tie.Need-returns-2
 returns-2 c =
     let h = c .before .before .before .before .before in
     let a = c .before .before .answer .given in
-    order-refused (h .before .before .args .chart .now) (h .graph .result) (graphs-of _ _ (h .graph .ensures)) (a .0 .0) (a .0 .1 .0) (a .1) (c .refused .result) (c .refused .ensures)
+    order-refused (h .before .before .args .setting) (h .before .before .args .chart .now) (h .graph .result) (graphs-of _ _ _ (h .graph .ensures)) (a .0 .0) (a .0 .1 .0) (a .1) (c .refused .result) (c .refused .ensures)
 
 pub order-spec : {M : Type 1} → statement M
 order-spec =

@@ -20,7 +20,7 @@ returns : tie.Need-returns
 returns c =
     let h = c .before .before .before .before .before in
     let a = h .before .before .before .args in
-    tabled-found (a .table .now) (labelled (a .chart .now) (a .x) (a .y) (a .k) (a .i)) (h .label-place .result) (h .label-place .ensures) (c .before .before .enum-told .given .1)
+    tabled-found (a .table .now) (labelled (a .setting) (a .chart .now) (a .x) (a .y) (a .k) (a .i)) (h .label-place .result) (h .label-place .ensures) (c .before .before .enum-told .given .1)
     (sym (c .before .is-stand-ins .ensures) ∙ c .if1 .taken)
 
 no-place-requires : tie.Need-no-place-requires
@@ -30,7 +30,7 @@ returns-2 : tie.Need-returns-2
 returns-2 c =
     let h = c .before .before .before .before .before .before in
     let a = h .before .before .before .args in
-    tabled-none (a .table .now) (labelled (a .chart .now) (a .x) (a .y) (a .k) (a .i)) (h .label-place .result) (c .no-place .result) (h .label-place .ensures) (c .before .before .before .enum-told .given .1)
+    tabled-none (a .table .now) (labelled (a .setting) (a .chart .now) (a .x) (a .y) (a .k) (a .i)) (h .label-place .result) (c .no-place .result) (h .label-place .ensures) (c .before .before .before .enum-told .given .1)
     (sym (c .before .before .is-stand-ins .ensures) ∙ c .before .if1 .left) (c .no-place .ensures)
 
 enum-known-answer : tie.Need-enum-known-answer
@@ -44,7 +44,7 @@ returns-3 c =
     let h = c .before .before .before .before .before in
     let a = h .before .before .before .args in
     let q = c .before .before .answer .given in
-    tabled-refused (a .table .now) (labelled (a .chart .now) (a .x) (a .y) (a .k) (a .i)) (h .label-place .result) (c .no-place2 .result) (q .0 .0) (q .0 .1 .0) (h .label-place .ensures) (q .1) (c .no-place2 .ensures)
+    tabled-refused (a .table .now) (labelled (a .setting) (a .chart .now) (a .x) (a .y) (a .k) (a .i)) (h .label-place .result) (c .no-place2 .result) (q .0 .0) (q .0 .1 .0) (h .label-place .ensures) (q .1) (c .no-place2 .ensures)
 
 pub find-label-spec : {M : Type 1} → statement M
 find-label-spec =

@@ -14,7 +14,7 @@ returns : tie.Need-returns
 returns c =
     let h = c .before in
     let a = h .before .before .before .args in
-    answer-is (tabled (a .table .now) (labelled (a .chart .now) (a .x) (a .y) (a .k) (a .i))) (h .find-label .result) (h .find-label .ensures)
+    answer-is (tabled (a .table .now) (labelled (a .setting) (a .chart .now) (a .x) (a .y) (a .k) (a .i))) (h .find-label .result) (h .find-label .ensures)
 
 pub label-place-spec : {M : Type 1} → statement M
 label-place-spec = tie.close (tie.spec find-label-requires returns)

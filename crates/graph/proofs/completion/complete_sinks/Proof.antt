@@ -11,10 +11,10 @@ use Rattle.graph.proofs.completion.complete_sinks.Statement.{statement}
 use Rattle.graph.proofs.completion.complete_sinks.Tie as tie
 
 abbrev Inv-loop : tie.InvT-loop
-Inv-loop t p given sinks sources₀ i₀ k₀ sources i k = Left given t p sources i k
+Inv-loop t p given n sinks sources₀ i₀ k₀ sources i k = Left given t p sources i k
 
 abbrev μ-loop : tie.MeasureT-loop
-μ-loop t p given sinks sources₀ i₀ k₀ sources i k = t .sinks .count - k
+μ-loop t p given n sinks sources₀ i₀ k₀ sources i k = t .sinks .count - k
 
 long : (z : tie.Start Inv-loop μ-loop) → length (z .args .t .sinks .items) ≡ 88
 long z = search (needs, mapped-long)
@@ -27,7 +27,6 @@ loop-holds c =
       numbered = search needs;
       number = refl;
       room = omega arith;
-      aims = z .pre .0 .linked .source-aims;
       owners = z .pre .0 .linked .source-owners;
       sinked = z .pre .0 .sinked;
       paired = z .pre .0 .paired;

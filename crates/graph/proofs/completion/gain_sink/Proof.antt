@@ -9,7 +9,7 @@ use Rattle.graph.specs.code.Tables.{itemsOf}
 use Rattle.graph.specs.Outcome.{noItem}
 use Rattle.graph.proofs.Lists.{table-size, table-at}
 use Rattle.graph.proofs.Cuts.{owned-le}
-use Rattle.graph.proofs.Sinks.{sink-kept, sink-gained}
+use Rattle.graph.proofs.Sinks.{sink-kept, sink-out, sink-gained}
 use Rattle.graph.proofs.completion.gain_sink.Statement.{statement}
 use borrow.Author.Needs.{needs}
 use Rattle.graph.proofs.completion.gain_sink.Tie as tie
@@ -33,21 +33,30 @@ mul-e c = omega (arith, k-in (c .before .before), (c .before .before) .pre .0 .s
 element-copy-out-e : tie.Need-element-copy-out-e
 element-copy-out-e c = omega (arith, k-in (c .before .before), (c .before .before) .pre .0 .source-room)
 
-leads-to-requires : tie.Need-leads-to-requires
-leads-to-requires c κs = search needs
+cast-if1 : tie.Need-cast-if1
+cast-if1 c = search needs
 
 returns : tie.Need-returns
 returns c =
     let z = c .before .before .before .before .before in
+    sink-out (z .args .t) (z .pre .0) (z .args .p) (z .args .j) (z .args .k) (z .pre .1 .1 .0) (z .pre .1 .0)
+    (getD (z .args .t .sources .items) (z .args .k) noItem) (same z) (c .if1 .taken)
+
+leads-to-requires : tie.Need-leads-to-requires
+leads-to-requires c κs = search needs
+
+returns-2 : tie.Need-returns-2
+returns-2 c =
+    let z = c .before .before .before .before .before .before .before in
     sink-kept (z .args .t) (z .pre .0) (z .args .p) (z .args .j) (z .args .k) (z .pre .1 .1 .0) (z .pre .1 .0)
-    (getD (z .args .t .sources .items) (z .args .k) noItem) (same z) (sym (c .before .leads-to .ensures) ∙ c .if1 .taken)
+    (getD (z .args .t .sources .items) (z .args .k) noItem) (same z) (c .before .before .if1 .left) (sym (c .before .leads-to .ensures) ∙ c .if2 .taken)
 
 count-owned-requires : tie.Need-count-owned-requires
 count-owned-requires c κs = search needs
 
 add-marked : tie.Need-add-marked
 add-marked c =
-    let z = c .before .before .before .before .before .before in
+    let z = c .before .before .before .before .before .before .before .before in
     omega (
       arith,
       c .count-owned .ensures,
@@ -57,17 +66,17 @@ add-marked c =
     )
 
 marked-requires : tie.Need-marked-requires
-marked-requires c κs = let z = c .before .before .before .before .before .before in (z .pre .0 .source-room, k-in z)
+marked-requires c κs = let z = c .before .before .before .before .before .before .before .before in (z .pre .0 .source-room, k-in z)
 
 push-requires : tie.Need-push-requires
 push-requires c κs = search needs
 
-returns-2 : tie.Need-returns-2
-returns-2 c =
-    let z = c .before .before .before .before .before .before .before .before in
+returns-3 : tie.Need-returns-3
+returns-3 c =
+    let z = c .before .before .before .before .before .before .before .before .before .before in
     sink-gained (z .args .t) (z .pre .0) (z .args .p) (z .args .j) (z .args .k) (z .pre .1 .1 .0) (z .pre .1 .0)
-    (getD (z .args .t .sources .items) (z .args .k) noItem) (same z) (z .pre .1 .1 .1)
-    (sym (c .before .before .before .before .leads-to .ensures) ∙ c .before .before .before .if1 .left)
+    (getD (z .args .t .sources .items) (z .args .k) noItem) (same z) (c .before .before .before .before .before .if1 .left) (z .pre .1 .1 .1)
+    (sym (c .before .before .before .before .leads-to .ensures) ∙ c .before .before .before .if2 .left)
     (c .before .before .count-owned .result) (c .before .before .count-owned .ensures)
     (c .before .marked .result) (c .push .result)
     (c .before .marked .ensures) (c .push .ensures .items, c .push .ensures .count)
@@ -78,10 +87,12 @@ gain-sink-spec =
     (tie.spec
     mul-e
     element-copy-out-e
-    leads-to-requires
+    cast-if1
     returns
+    leads-to-requires
+    returns-2
     count-owned-requires
     add-marked
     marked-requires
     push-requires
-    returns-2)
+    returns-3)

@@ -234,8 +234,8 @@ array-read-if1 c = omega (arith, small (c .before), below (c .before) (c .loop-t
 array-write-seen : tie.Need-array-write-seen Inv-loop2 μ-loop2 Inv-loop μ-loop
 array-write-seen c = omega (arith, small (c .before .before), below (c .before .before) (c .before .loop-test .taken))
 
-cast-t37 : tie.Need-cast-t37 Inv-loop2 μ-loop2 Inv-loop μ-loop
-cast-t37 c = omega (arith, small (c .before .before), below (c .before .before) (c .before .loop-test .taken))
+cast-t38 : tie.Need-cast-t38 Inv-loop2 μ-loop2 Inv-loop μ-loop
+cast-t38 c = omega (arith, small (c .before .before), below (c .before .before) (c .before .loop-test .taken))
 
 array-set-from-frames : tie.Need-array-set-from-frames Inv-loop2 μ-loop2 Inv-loop μ-loop
 array-set-from-frames c = search needs
@@ -314,8 +314,8 @@ cast-q c = search needs
 array-read-v : tie.Need-array-read-v Inv-loop2 μ-loop2 Inv-loop μ-loop
 array-read-v c = to-in (c .before .before .before)
 
-add-t54 : tie.Need-add-t54 Inv-loop2 μ-loop2 Inv-loop μ-loop
-add-t54 c = omega (arith, sink-in (c .before .before .before .before))
+add-t55 : tie.Need-add-t55 Inv-loop2 μ-loop2 Inv-loop μ-loop
+add-t55 c = omega (arith, sink-in (c .before .before .before .before))
 
 mul-frames : tie.Need-mul-frames Inv-loop2 μ-loop2 Inv-loop μ-loop
 mul-frames c = omega (arith, depth-in (walk (c .before .before .before .before)))
@@ -383,8 +383,17 @@ cut-sinks-requires c κs =
 add-last : tie.Need-add-last Inv-loop2 μ-loop2 Inv-loop μ-loop
 add-last c = search needs
 
+cast-shown : tie.Need-cast-shown Inv-loop2 μ-loop2 Inv-loop μ-loop
+cast-shown c = search needs
+
+mul-names : tie.Need-mul-names Inv-loop2 μ-loop2 Inv-loop μ-loop
+mul-names c = search needs
+
 array-write-names : tie.Need-array-write-names Inv-loop2 μ-loop2 Inv-loop μ-loop
 array-write-names c = search needs
+
+mul-names-2 : tie.Need-mul-names-2 Inv-loop2 μ-loop2 Inv-loop μ-loop
+mul-names-2 c = search needs
 
 array-write-names-2 : tie.Need-array-write-names-2 Inv-loop2 μ-loop2 Inv-loop μ-loop
 array-write-names-2 c = search needs
@@ -399,13 +408,13 @@ add-n : tie.Need-add-n Inv-loop2 μ-loop2 Inv-loop μ-loop
 add-n c = search needs
 
 add-cuts : tie.Need-add-cuts Inv-loop2 μ-loop2 Inv-loop μ-loop
-add-cuts c = let w = walk (c .before .before .before .before .before .before .before .before .before) in omega (arith, w .loop2 .inv .1 .count, c .before .before .if4 .left)
+add-cuts c = let h = c .before in let w = walk (h .before .before .before .before .before .before .before .before .before) in omega (arith, w .loop2 .inv .1 .count, h .before .before .if4 .left)
 
 loop2-less-4 : tie.Need-loop2-less-4 Inv-loop2 μ-loop2 Inv-loop μ-loop
-loop2-less-4 c = done c .less
+loop2-less-4 c = done (c .before) .less
 
 loop2-again-4 : tie.Need-loop2-again-4 Inv-loop2 μ-loop2 Inv-loop μ-loop
-loop2-again-4 c = let w = walk (c .before .before .before .before .before .before .before .before .before) in let z = w .loop2 .inv .0 in ((simp length-set (z .0), simp length-set (z .1), cut-long c, simp length-set (z .3)), done c .ready, done c .same ∙ w .loop2 .inv .2)
+loop2-again-4 c = let h = c .before in let w = walk (h .before .before .before .before .before .before .before .before .before) in let z = w .loop2 .inv .0 in ((simp length-set (z .0), simp length-set (z .1), cut-long h, simp length-set (z .3)), done h .ready, done h .same ∙ w .loop2 .inv .2)
 
 loop-less-2 : tie.Need-loop-less-2 Inv-loop2 μ-loop2 Inv-loop μ-loop
 loop-less-2 c = omega (arith, c .before .loop-test .taken)
@@ -431,7 +440,7 @@ cut-cycles-spec =
     add-p
     array-read-if1
     array-write-seen
-    cast-t37
+    cast-t38
     array-set-from-frames
     loop2-holds
     loop-less
@@ -450,7 +459,7 @@ cut-cycles-spec =
     element-copy-out-e
     cast-q
     array-read-v
-    add-t54
+    add-t55
     mul-frames
     array-set-from-frames-2
     array-write-seen-3
@@ -467,7 +476,10 @@ cut-cycles-spec =
     cut-sources-requires
     cut-sinks-requires
     add-last
+    cast-shown
+    mul-names
     array-write-names
+    mul-names-2
     array-write-names-2
     array-write-seen-4
     array-write-seen-5

@@ -30,6 +30,9 @@ end-label-requires c κs = search needs
 returns : tie.Need-returns
 returns c = let z = c .before .before .before .before .before .before .before in label-first (z .args .g) (z .args .p) (z .pre .1 .0) (z .args .x) (z .args .y) (z .args .i) (c .before .before .before .before .before .before .node-of .result) (c .before .before .before .before .before .before .node-of .ensures .0) (c .before .before .end-label .result) (c .before .before .end-label .ensures) (c .before .if1 .taken)
 
+mul-line-label : tie.Need-mul-line-label
+mul-line-label c = search needs
+
 array-read-line-label : tie.Need-array-read-line-label
 array-read-line-label c = search needs
 
@@ -71,6 +74,7 @@ label-at-spec =
     add-t19
     end-label-requires
     returns
+    mul-line-label
     array-read-line-label
     add-line-label-2
     add-line-label-3

@@ -10,6 +10,9 @@ use Rattle.grid.proofs.label.node_of.Tie as tie
 ends-of-requires : tie.Need-ends-of-requires
 ends-of-requires c κs = search needs
 
+mul-center-of : tie.Need-mul-center-of
+mul-center-of c = search needs
+
 array-read-center-of : tie.Need-array-read-center-of
 array-read-center-of c = search needs
 
@@ -33,6 +36,7 @@ node-of-spec =
     tie.close
     (tie.spec
     ends-of-requires
+    mul-center-of
     array-read-center-of
     center-of-requires
     ends-of-requires-2

@@ -33,6 +33,9 @@ cast-q c = search needs
 ends-of-requires : tie.Need-ends-of-requires Inv-loop μ-loop
 ends-of-requires c κs = search needs
 
+mul-center-of : tie.Need-mul-center-of Inv-loop μ-loop
+mul-center-of c = search needs
+
 array-read-center-of : tie.Need-array-read-center-of Inv-loop μ-loop
 array-read-center-of c = search needs
 
@@ -85,6 +88,7 @@ render-nodes-spec =
     loop-holds
     cast-q
     ends-of-requires
+    mul-center-of
     array-read-center-of
     center-of-requires
     ends-of-requires-2
