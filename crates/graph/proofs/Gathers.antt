@@ -43,7 +43,7 @@ use Rattle.graph.proofs.RoomLaws.{cutting-ends}
 use Rattle.graph.proofs.JoinLaws.{OffIn}
 use Rattle.graph.proofs.DepthLaws.{reached-enough, cutting-enough}
 use Rattle.graph.proofs.Orders.{table-back}
-use Rattle.graph.proofs.Uncut.{Plain, given-aimed, lines-at, uncut-long, uncut-aims, uncut-marks, uncut-plain, uncut-none, uncut-sources, uncut-sinks, uncut-texts, uncut-offs-in, lines-off, uncut-boxes, uncut-own-sinks, uncut-own-sources, offs, cut-kept, cut-lined, cut-rest, cut-plain, lines-kept, lines-new}
+use Rattle.graph.proofs.Uncut.{Plain, given-aimed, lines-at, uncut-long, uncut-aims, uncut-marks, uncut-plain, uncut-none, uncut-sources, uncut-sinks, uncut-texts, uncut-offs-in, lines-off, uncut-boxes, uncut-own-sinks, uncut-own-sources, offs, cut-kept, cut-lined, cut-rest, cut-plain, lines-kept, lines-new, lines-halves}
 use Rattle.graph.proofs.NoLeads.{none-aimed}
 use Rattle.graph.proofs.Begins.{cut-lines, few-lines}
 
@@ -87,6 +87,7 @@ module _ (v : Setting) (s : List ℕ) (ps : Board) (r : chart v s ≡ accepted p
         joined = uncut-boxes ps;
         kept = cut-kept ps;
         inserted = lines-new ps;
+        halves = λ j h. lines-halves ps j;
       }
 
   pub board-laws : Laws v s d

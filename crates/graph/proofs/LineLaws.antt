@@ -1,6 +1,6 @@
 -- The lines: a node keeps its lines, and a cut's box has the line of a given node's number.
 -- Assumes nothing.
-use Prim.Native.Nat.{ℕ, suc, _+_, _≤_, _<_}
+use Prim.Native.Nat.{ℕ, zero, suc, _+_, _*_, _≤_, _<_}
 use native.Mathlib.Omega.{arith}
 use mathlib.Core.Path.{_≡_, refl, ap, sym, _∙_, subst}
 use mathlib.Core.Bool.{Bool, true, false}
@@ -102,11 +102,32 @@ closed-cut n w c s lo hs b a =
     let b₂ : All (λ (x : Node). All (Ends n h) (x .sinks)) g₂ = all-set (λ (x : Node). All (Ends n h) (x .sinks)) g₁ q _ (all-at (λ (x : Node). All (Ends n h) (x .sinks)) g₁ q bare tt b₁) b₁ in
     all-join (λ (x : Node). All (Ends n h) (x .sinks)) g₂ new b₂ (tt, ((inl (closed-given n g c s hs b a), tt), tt))
 
+-- two and two, the same
+abbrev pub Paired : {A : Type 0} → List A → Type 0
+Paired [] = Unit {0}
+Paired (x ∷ []) = ⊥
+Paired (x ∷ y ∷ zs) = (x ≡ y) × Paired zs
+
+paired-join : {A : Type 0} (xs ys : List A) → Paired xs → Paired ys → Paired (xs ++ ys)
+paired-join [] ys p q = q
+paired-join (x ∷ []) ys p q = absurd p
+paired-join (x ∷ y ∷ zs) ys p q = (p .0, paired-join zs ys (p .1) q)
+
+pub paired-at : {A : Type 0} (xs : List A) (j : ℕ) (z : A) → Paired xs → getD xs (2 * j) z ≡ getD xs (2 * j + 1) z
+paired-at [] j z p = refl
+paired-at (x ∷ []) j z p = absurd p
+paired-at (x ∷ y ∷ zs) zero z p = p .0
+paired-at (x ∷ y ∷ zs) (suc j) z p =
+    let a : 2 * suc j ≡ suc (suc (2 * j)) = omega arith in
+    let b : 2 * suc j + 1 ≡ suc (suc (2 * j + 1)) = omega arith in
+    ap (λ (k : ℕ). getD (x ∷ y ∷ zs) k z) a ∙ paired-at zs j z (p .1) ∙ sym (ap (λ (k : ℕ). getD (x ∷ y ∷ zs) k z) b)
+
 -- the lines ls of the nodes before cutting, and after them those of the cuts' boxes
 pub record Lined (n : ℕ) (ls : List (List Line)) (g : Graph) : Type 0 where
   pub rest : List (List Line)
   pub lines : linesIn g ≡ ls ++ rest
   pub named : All (Named n) rest
+  pub paired : Paired rest
 
 module _ (n : ℕ) (ls : List (List Line)) where
   lined-cut : (w : Walk) (c s : ℕ) (e : Edge) → e .to < n → Lined n ls (w .graph) → Lined n ls (cut w c s e .graph)
@@ -118,6 +139,7 @@ module _ (n : ℕ) (ls : List (List Line)) where
             cut-alone (λ (x : Node). x .lines) (λ n es. refl) (λ n es. refl) (w .graph) c s e
             ∙ ap (λ (k : List (List Line)). k ++ two) (l .lines) ∙ append-assoc ls (l .rest) two;
         named = all-join (Named n) (l .rest) two (l .named) (record { q = e .to; inside = h; line = refl }, (record { q = e .to; inside = h; line = refl }, tt));
+        paired = paired-join (l .rest) two (l .paired) (refl, tt);
       }
 
   -- n given nodes, and others that no sink goes on from
@@ -125,7 +147,7 @@ module _ (n : ℕ) (ls : List (List Line)) where
   cutting-lined g lo k i =
       cutting-keeps (length g) (reached g) (λ w. Lined n ls (w .graph) × Closed n (w .graph)) (λ w c x l. l)
       (λ w c s hc hs h m bz fr l. (lined-cut w c s _ (closed-given n (w .graph) c s hs bz (l .1)) (l .0), closed-cut n w c s (omega arith) hs bz (l .1))) g refl refl
-      (record { rest = []; lines = i ∙ sym (append-nil ls); named = tt }, k) .keeps
+      (record { rest = []; lines = i ∙ sym (append-nil ls); named = tt; paired = tt }, k) .keeps
 
 -- ---- nodes after the first n that have no sinks, or are roots: cutting leaves them as they are
 kept-cut : (n : ℕ) (g : Graph) (c s : ℕ) (e : Edge) (k : ℕ) → c < n → e .to < n → n ≤ k → k < length g → nodeAt (cutGraph g c s e) k ≡ nodeAt g k

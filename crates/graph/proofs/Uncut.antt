@@ -1,6 +1,6 @@
 -- The graph before cutting, completed and joined: what holds of it.
 -- Assumes nothing.
-use Prim.Native.Nat.{ℕ, suc, _+_, _-_, _≤_, _<_}
+use Prim.Native.Nat.{ℕ, suc, _+_, _-_, _*_, _≤_, _<_}
 use native.Mathlib.Omega.{arith}
 use mathlib.Core.Path.{_≡_, refl, ap, sym, _∙_, subst}
 use mathlib.Core.Option.{Option, none, some}
@@ -23,7 +23,7 @@ use Rattle.graph.specs.Laws.{Aimed, SinkAt, Names, Marked, Begins, Texts
 use Rattle.graph.specs.Outcome.{textsIn}
 use Rattle.graph.proofs.Keeps.{cutting-keeps}
 use Rattle.graph.proofs.Completes.{SourceAt, complete-holds}
-use Rattle.graph.proofs.LineLaws.{linesIn, complete-lines, complete-length, Closed, Idle, Lined, cutting-lined, cutting-kept, givenLines, completed-length, given-lines}
+use Rattle.graph.proofs.LineLaws.{linesIn, complete-lines, complete-length, Closed, Idle, paired-at, Lined, cutting-lined, cutting-kept, givenLines, completed-length, given-lines}
 use Rattle.graph.proofs.AimLaws.{all-set, all-at, all-in, complete-aims}
 use Rattle.graph.proofs.MarkLaws.{Good, complete-good}
 use Rattle.graph.proofs.TextLaws.{complete-texts}
@@ -255,22 +255,37 @@ module _ (ps : Board) where
       lines-at g k ∙ ap (λ (m : List (List Line)). getD m k []) cut-rest ∙ List·getD-append ls (offs ++ cut-lined .rest) [] k (omega (arith, ls-long))
       ∙ ap (λ (m : List (List Line)). getD m k []) (sym (given-lines ps)) ∙ sym (lines-at g₀ k)
 
+  -- the boxes of the cuts come after the given nodes and the leads' boxes
+  abbrev before-cuts : List (List Line)
+  before-cuts = ls ++ offs
+
+  before-long : length before-cuts ≡ n + leadsOf ps
+  before-long = sym (ap (λ (y : List (List Line)). length y) uncut-lines) ∙ length-map (uncut ps) (λ (x : Node). x .lines) ∙ uncut-long
+
+  new-at : (j : ℕ) → nodeAt (cutting (uncut ps) .graph) (n + leadsOf ps + j) .lines ≡ getD (cut-lined .rest) j []
+  new-at j =
+      let g : Graph = cutting (uncut ps) .graph in
+      lines-at g (n + leadsOf ps + j) ∙ ap (λ (y : List (List Line)). getD y (n + leadsOf ps + j) []) (cut-lined .lines)
+      ∙ ap (λ (m : ℕ). getD (before-cuts ++ cut-lined .rest) (m + j) []) (sym before-long) ∙ getD-append-add before-cuts (cut-lined .rest) j []
+
   pub lines-new : (k : ℕ) → n + leadsOf ps ≤ k → k < length (cutting (uncut ps) .graph) → Named n (nodeAt (cutting (uncut ps) .graph) k .lines)
   lines-new k h m =
       let g : Graph = cutting (uncut ps) .graph in
-      let us : List (List Line) = ls ++ offs in
-      let size : length us ≡ n + leadsOf ps = sym (ap (λ (y : List (List Line)). length y) uncut-lines) ∙ length-map (uncut ps) (λ (x : Node). x .lines) ∙ uncut-long in
-      let z : length us + (k - (n + leadsOf ps)) ≡ k = omega (arith, size) in
-      let long : length g ≡ length us + length (cut-lined .rest) = sym (length-map g (λ (x : Node). x .lines)) ∙ ap (λ (y : List (List Line)). length y) (cut-lined .lines) ∙ length-append us (cut-lined .rest) in
-      let e : nodeAt g k .lines ≡ getD (cut-lined .rest) (k - (n + leadsOf ps)) [] =
-      lines-at g k ∙ ap (λ (y : List (List Line)). getD y k []) (cut-lined .lines) ∙ ap (λ (j : ℕ). getD (us ++ cut-lined .rest) j []) (sym z) ∙ getD-append-add us (cut-lined .rest) (k - (n + leadsOf ps)) [] in
-      rw e (all-in (Named n) (cut-lined .rest) (k - (n + leadsOf ps)) [] (omega (arith, size, long)) (cut-lined .named))
+      let z : n + leadsOf ps + (k - (n + leadsOf ps)) ≡ k = omega arith in
+      let long : length g ≡ length before-cuts + length (cut-lined .rest) =
+      sym (length-map g (λ (x : Node). x .lines)) ∙ ap (λ (y : List (List Line)). length y) (cut-lined .lines) ∙ length-append before-cuts (cut-lined .rest) in
+      subst (λ (i : ℕ). Named n (nodeAt g i .lines)) z
+      (rw (new-at (k - (n + leadsOf ps))) (all-in (Named n) (cut-lined .rest) (k - (n + leadsOf ps)) [] (omega (arith, before-long, long)) (cut-lined .named)))
+
+  pub lines-halves : (j : ℕ) → nodeAt (cutting (uncut ps) .graph) (n + leadsOf ps + 2 * j) .lines ≡ nodeAt (cutting (uncut ps) .graph) (n + leadsOf ps + 2 * j + 1) .lines
+  lines-halves j =
+      let e : n + leadsOf ps + (2 * j + 1) ≡ n + leadsOf ps + 2 * j + 1 = omega arith in
+      new-at (2 * j) ∙ paired-at (cut-lined .rest) j [] (cut-lined .paired) ∙ sym (new-at (2 * j + 1)) ∙ ap (λ (k : ℕ). nodeAt (cutting (uncut ps) .graph) k .lines) e
 
   -- the line of a lead's box, where the given targets are below m
   pub lines-off : (m : ℕ) → n ≤ m → Aimed m g₀ → (k : ℕ) → n ≤ k → k < n + leadsOf ps → OffIn n m (nodeAt (uncut ps) k .lines)
   lines-off m l a k h i =
-      let size : length (ls ++ offs) ≡ n + leadsOf ps = sym (ap (λ (y : List (List Line)). length y) uncut-lines) ∙ length-map (uncut ps) (λ (x : Node). x .lines) ∙ uncut-long in
       let z : length ls + (k - n) ≡ k = omega (arith, ls-long) in
       let e : nodeAt (uncut ps) k .lines ≡ getD offs (k - n) [] =
       lines-at (uncut ps) k ∙ ap (λ (y : List (List Line)). getD y k []) uncut-lines ∙ ap (λ (j : ℕ). getD (ls ++ offs) j []) (sym z) ∙ getD-append-add ls offs (k - n) [] in
-      rw e (all-in (OffIn n m) offs (k - n) [] (omega (arith, size, length-append ls offs, ls-long)) (uncut-offs-in m l a))
+      rw e (all-in (OffIn n m) offs (k - n) [] (omega (arith, before-long, length-append ls offs, ls-long)) (uncut-offs-in m l a))

@@ -136,6 +136,9 @@ pub record Laws (w : Setting) (s : List ℕ) (d : Dag) : Type 0 where
   pub kept : (k : ℕ) → length board ≤ k → k < length board + leadsOf board → nodeAt (d .graph) k ≡ nodeAt (uncut board) k
   -- a cut's box has one line, a given node's number
   pub inserted : (k : ℕ) → length board + leadsOf board ≤ k → k < length (d .graph) → Named (length board) (nodeAt (d .graph) k .lines)
+  -- 'the same line': both boxes of a cut show the same node
+  pub halves : (j : ℕ) → j < d .cuts →
+      nodeAt (d .graph) (length board + leadsOf board + 2 * j) .lines ≡ nodeAt (d .graph) (length board + leadsOf board + 2 * j + 1) .lines
 
 -- the walks of an accepted board end by themselves: no depth is used up, any larger bound gives the same
 pub record Walks (board : Board) : Type 0 where
