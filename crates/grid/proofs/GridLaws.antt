@@ -114,8 +114,8 @@ module _ (n leads cuts b : ℕ) (g : Graph) (cols rows : List ℕ) (tall : lengt
     h-is : box s k .height ≡ at (tallnesses g) k
     h-is = ap (λ (z : Box). z .height) (is k h) ∙ height-is k h
 
-    of-node : box s k ≡ boxAt (nodeAt g k) (box s k .column) (box s k .row) (box s k .x) (box s k .y)
-    of-node = subst (λ (z : Box). z ≡ boxAt (nodeAt g k) (z .column) (z .row) (z .x) (z .y)) (sym (is k h)) refl
+    of-node : box s k ≡ boxAt k (nodeAt g k) (box s k .column) (box s k .row) (box s k .x) (box s k .y)
+    of-node = subst (λ (z : Box). z ≡ boxAt k (nodeAt g k) (z .column) (z .row) (z .x) (z .y)) (sym (is k h)) refl
 
     in-cell : (box s k .column < s .columns) × (box s k .row < s .rows)
     unfolding sheetOf

@@ -23,6 +23,7 @@ pub mod PointLaws
 pub mod CurveLaws
 pub mod LaidLaws
 pub mod RecordLaws
+pub mod OwnerLaws
 pub mod SheetLaws
 pub mod LabelLaws
 pub mod CellLaws

@@ -14,6 +14,7 @@ use borrow.Author.Tests.{lt-ltb}
 use Rattle.laws.specs.Lists.{All, one, tabulate, keep, padded}
 use Rattle.laws.specs.Each.{each}
 use Rattle.laws.proofs.Lists.{length-tabulate, getD-tabulate, tabulate-same, map-tabulate, padded-set}
+use Rattle.chart.specs.code.Filled.{linesOf as textsOf}
 use Rattle.graph.specs.declared.Item.{Item}
 use Rattle.graph.specs.declared.Tables.{Tables}
 use Rattle.graph.specs.Graph.{Edge, Node, nodeAt}
@@ -30,14 +31,15 @@ use Rattle.grid.specs.Lists.{largest}
 use Rattle.grid.specs.Columns.{at}
 use Rattle.grid.specs.Record.{noBox, noCurve}
 use Rattle.grid.specs.RenderNode.{Input, Output, drawn, boxWidth, boxHeight, endWidth, inputsAt, outputsAt}
-use Rattle.grid.specs.RenderGrid.{Box, Sheet, begins, reach, extent, widths, tallnesses, boxOf, sheetOf, inputMoved, outputMoved}
+use Rattle.grid.specs.RenderGrid.{Box, Sheet, begins, reach, extent, widths, tallnesses, ownerIn, boxOf, sheetOf, inputMoved, outputMoved}
 use Rattle.grid.specs.Curves.{outputFor, curveIf, noOutputs, curvesTo, curvesFrom, curves, boxRecord, recordOf}
 use Rattle.grid.specs.code.Rendered.{Seated, AllModest, numbersOf, Noted, renderOf, inputsOf, outputsOf}
-use Rattle.grid.specs.code.Laid.{Bounded, sizesIn, beginsTo, boxFrom, boxesFrom, runAt, Movable, laidInputs, laidOutputs, noCurves, added, addAll, curvesOver, curvesAt}
+use Rattle.grid.specs.code.Laid.{Bounded, sizesIn, beginsTo, ownerBy, boxFrom, boxesFrom, runAt, Movable, laidInputs, laidOutputs, noCurves, added, addAll, curvesOver, curvesAt}
 use Rattle.grid.proofs.ListLaws.{at-largest}
 use Rattle.grid.proofs.Arrays.{filled-at, all-tabulate}
 use Rattle.grid.proofs.NodeLaws.{node-is, graph-long}
 use Rattle.grid.proofs.LaidLaws.{largest-le, begins-le}
+use Rattle.grid.proofs.OwnerLaws.{owner-held}
 
 length-take-most : {A : Type 0} (n : ℕ) (l : List A) → length (take n l) ≤ n
 length-take-most n l = omega (arith, length-take n l)
@@ -208,7 +210,10 @@ module _ (g : Tables) (seat : Seated g) (cols rows : List ℕ) (wide : g .n ≤ 
     y-at : (k : ℕ) → k < g .n → getD ys (getD rows k 0) 0 ≡ box k .y
     y-at = place-at 2048 rows (sizesIn ns 1 (g .n)) (tallnesses (graphOf g)) ys tall heights-are ys-at
 
-    box-is : (k : ℕ) → k < g .n → boxFrom ns xs ys cols rows k ≡ boxRecord (box k)
+    owner-at : (k : ℕ) → k < g .n → ownerBy (getD (g .names) k 0) k ≡ box k .owner
+    owner-at k h = owner-held (textsOf (g .lines)) (g .names) k ∙ ap (λ (x : Node). ownerIn k (x .lines)) (sym (node-is g k h))
+
+    box-is : (k : ℕ) → k < g .n → boxFrom (g .names) ns xs ys cols rows k ≡ boxRecord (box k)
     unfolding drawn renderOf
     box-is k h =
         let e : 8 * k ≡ 8 * k + 0 = omega arith in
@@ -216,12 +221,12 @@ module _ (g : Tables) (seat : Seated g) (cols rows : List ℕ) (wide : g .n ≤ 
         let t : getD ns (8 * k + 1) 0 ≡ boxHeight (nodeAt (graphOf g) k) = noted .number k h 1 (omega arith) in
         let ec : getD cols k 0 ≡ at cs k = sym (getD-take (g .n) cols k 0 h) in
         let er : getD rows k 0 ≡ at rs k = sym (getD-take (g .n) rows k 0 h) in
-        rw (x-at k h, y-at k h, w, t, ec, er)
+        rw (x-at k h, y-at k h, w, t, ec, er, owner-at k h)
 
-    boxes-are : boxesFrom ns xs ys cols rows (g .n) ≡ padded 48 noBox (map boxRecord (tabulate box 0 (length (graphOf g))))
+    boxes-are : boxesFrom (g .names) ns xs ys cols rows (g .n) ≡ padded 48 noBox (map boxRecord (tabulate box 0 (length (graphOf g))))
     boxes-are =
         ap (padded 48 noBox)
-        (tabulate-same (boxFrom ns xs ys cols rows) (λ k. boxRecord (box k)) 0 (g .n) (λ i l u. box-is i (omega arith))
+        (tabulate-same (boxFrom (g .names) ns xs ys cols rows) (λ k. boxRecord (box k)) 0 (g .n) (λ i l u. box-is i (omega arith))
         ∙ sym (map-tabulate boxRecord box 0 (g .n))
         ∙ ap (λ (m : ℕ). map boxRecord (tabulate box 0 m)) (sym long))
 
@@ -352,7 +357,7 @@ module _ (g : Tables) (seat : Seated g) (cols rows : List ℕ) (wide : g .n ≤ 
     -- what the code makes, one after the other, is the definition's
     pub laid-is : (right low width height : ℕ) (boxes : List BoxRecord) (all : Curves) → right ≡ largest cs → low ≡ largest rs →
         width ≡ getD xs right 0 + extent cs (sizesIn ns 0 (g .n)) right + 128 → height ≡ getD ys low 0 + extent rs (sizesIn ns 1 (g .n)) low + 128 →
-        boxes ≡ boxesFrom ns xs ys cols rows (g .n) → all ≡ each noCurves (curvesAt us vs ins outs) (g .n) → (x y : ℕ) →
+        boxes ≡ boxesFrom (g .names) ns xs ys cols rows (g .n) → all ≡ each noCurves (curvesAt us vs ins outs) (g .n) → (x y : ℕ) →
         _≡_ {A = SheetRecord}
         (record {
           width = width;

@@ -11,7 +11,7 @@ use Rattle.grid.specs.RenderNode.{textLength, lineLength}
 use Rattle.grid.specs.RenderGrid.{Box, Sheet, boxAt}
 
 abbrev pub noBox : Box
-noBox = record { column = 0; row = 0; x = 0; y = 0; width = 0; height = 0; texts = []; inputs = []; outputs = [] }
+noBox = record { column = 0; row = 0; x = 0; y = 0; width = 0; height = 0; owner = 0; texts = []; inputs = []; outputs = [] }
 
 -- box k of the sheet
 abbrev pub box : Sheet → ℕ → Box
@@ -33,7 +33,7 @@ Down a b = (a .y + a .height + 2048 ≤ b .y) ⊎ (b .y + b .height + 2048 ≤ a
 pub record SheetTheorem (n leads cuts : ℕ) (g : Graph) (s : Sheet) : Type 0 where
   -- each given node has exactly one box: box k is node k's, for each node of the cut graph, and there are no others
   pub one-each : length (s .boxes) ≡ length g
-  pub node's : (k : ℕ) → k < length g → box s k ≡ boxAt (nodeAt g k) (box s k .column) (box s k .row) (box s k .x) (box s k .y)
+  pub node's : (k : ℕ) → k < length g → box s k ≡ boxAt k (nodeAt g k) (box s k .column) (box s k .row) (box s k .x) (box s k .y)
   pub given : n ≤ length (s .boxes)
   -- boxes = nodes given + leads to nothing + 2 times cuts; the sheet reports the cuts
   pub boxes : length (s .boxes) ≡ n + leads + 2 * s .cuts

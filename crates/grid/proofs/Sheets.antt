@@ -45,7 +45,7 @@ use Rattle.grid.specs.code.Placed.{FirstColumns}
 use Rattle.grid.specs.code.Rendered.{Seated}
 use Rattle.grid.specs.RenderNode.{drawn, boxWidth, boxHeight}
 use Rattle.grid.specs.declared.Outcome.{Outcome}
-use Rattle.grid.specs.RenderGrid.{Box, Sheet, sheetOf, sheet}
+use Rattle.grid.specs.RenderGrid.{Box, Sheet, ownerIn, sheetOf, sheet}
 use Rattle.grid.specs.Record.{noBox, noSheet}
 use Rattle.grid.specs.Curves.{boxRecord, recordOf}
 use Rattle.grid.specs.Cells.{cellAt, cellsIn, Named, Apart}
@@ -58,10 +58,11 @@ use Rattle.grid.proofs.ColumnLaws.{first-placed, columns-placed}
 use Rattle.grid.proofs.RoundLaws.{heights-take, heights-inside, columns-take}
 use Rattle.grid.proofs.BoxTheorem.{sheet-theorem, columns-few, rows-few, never-14 as fits}
 use Rattle.grid.proofs.TextLaws.{small}
+use Rattle.grid.proofs.OwnerLaws.{Owners, owners-inside, graph-owners}
 use Rattle.grid.proofs.CellLaws.{cell-named, named-cell, cell-empty, empty-cell}
 
 -- the sheet sh of the graph g, at the origin x y
-module _ (n leads cuts : ℕ) (g : Graph) (sh : Sheet) (t : SheetTheorem n leads cuts g sh) (few : length (sh .boxes) ≤ 48) (wide : sh .columns ≤ 144) (high : sh .rows ≤ 48) (x y : ℕ) where
+module _ (n leads cuts : ℕ) (g : Graph) (sh : Sheet) (t : SheetTheorem n leads cuts g sh) (o : Owners n leads cuts g) (few : length (sh .boxes) ≤ 48) (wide : sh .columns ≤ 144) (high : sh .rows ≤ 48) (x y : ℕ) where
   abbrev r : SheetRecord
   r = recordOf sh x y
 
@@ -87,6 +88,9 @@ module _ (n leads cuts : ℕ) (g : Graph) (sh : Sheet) (t : SheetTheorem n leads
   height-of : (k : ℕ) → k < r .count → box r k .height ≡ boxHeight (nodeAt g k)
   unfolding drawn
   height-of k h = ap (λ (b : BoxRecord). b .height) (box-is k h) ∙ ap (λ (b : Box). b .height) (t .node's k (in-graph k h))
+
+  owner-is : (k : ℕ) → k < r .count → box r k .owner ≡ ownerIn k (nodeAt g k .lines)
+  owner-is k h = ap (λ (b : BoxRecord). b .owner) (box-is k h) ∙ ap (λ (b : Box). b .owner) (t .node's k (in-graph k h))
 
   column-below : (k : ℕ) → k < r .count → box r k .column < sh .columns
   column-below k h = omega (arith, ap (λ (b : BoxRecord). b .column) (box-is k h), t .has-cell k (in-sheet k h) .0)
@@ -160,6 +164,13 @@ module _ (n leads cuts : ℕ) (g : Graph) (sh : Sheet) (t : SheetTheorem n leads
         top = λ k h. rw (box-is k h) (t .top k (in-sheet k h));
         right = λ k h. rw (box-is k h) (t .right k (in-sheet k h));
         bottom = λ k h. rw (box-is k h) (t .bottom k (in-sheet k h));
+        owner-given = λ k h. owner-is k (omega (arith, t .given, count-is)) ∙ o .given k h;
+        owner-lead = λ k l h. owner-is k (omega (arith, t .boxes, count-is)) ∙ o .lead k l h;
+        owner-cut = λ k l h. let q = o .cut k l (in-graph k h) in rw (owner-is k h) q;
+        owner-halves = λ j h.
+            owner-is (n + leads + 2 * j) (omega (arith, t .boxes, count-is, t .reports)) ∙ o .halves j h
+            ∙ sym (owner-is (n + leads + 2 * j + 1) (omega (arith, t .boxes, count-is, t .reports)));
+        owners = λ k h e. rw (owner-is k h) (owners-inside n leads cuts g o k (in-graph k h) (λ z. e (owner-is k h ∙ z)));
       }
 
 -- ---- what the lower crates promise
@@ -331,9 +342,14 @@ module _ (v : Setting) (s : List ℕ) (x y : ℕ) (w : Graphing) (a : Graphs v s
         sheet-theorem g first columned-first (getD s 1 0) (leadsIn v s) (w .graph .cuts)
         (laws .nodes ∙ ap (λ (n : ℕ). n + leadsOf (laws .board) + 2 * w .graph .cuts) (laws .given) ∙ ap (λ (l : ℕ). getD s 1 0 + l + 2 * w .graph .cuts) (leads-are v s (dagIn (w .graph)) laws))
 
+    owned : Owners (getD s 1 0) (leadsIn v s) (w .graph .cuts) g
+    owned =
+        subst (λ (n : ℕ). Owners n (leadsIn v s) (w .graph .cuts) g) (laws .given)
+        (subst (λ (l : ℕ). Owners (length (laws .board)) l (w .graph .cuts) g) (leads-are v s (dagIn (w .graph)) laws) (graph-owners v s (dagIn (w .graph)) laws))
+
     boxes-of : BoxTheorem (getD s 1 0) (leadsIn v s) (w .graph .cuts) g (recordOf drawing x y)
     boxes-of =
-        boxed (getD s 1 0) (leadsIn v s) (w .graph .cuts) g drawing theorem (omega (arith, theorem .one-each, laws .boxes))
+        boxed (getD s 1 0) (leadsIn v s) (w .graph .cuts) g drawing theorem owned (omega (arith, theorem .one-each, laws .boxes))
         (columns-few g first columned-first (w .graph .cuts) (laws .boxes)) (rows-few g first columned-first (w .graph .cuts) (laws .boxes)) x y
 
     sheet-ready : (r : Outcome) → r ≡ fittedOf (recordOf (sheet g (w .graph .cuts) (take (w .graph .n) cs)) x y) → Made v s x y r

@@ -4,7 +4,8 @@ use Prim.Native.Nat.{ℕ, _+_, _*_, _≤_, _<_}
 use mathlib.Core.Path.{_≡_}
 use mathlib.Core.Logic.{_⊎_, _↔_}
 use lib.ListN.{length, getD}
-use Rattle.graph.specs.Graph.{Graph, nodeAt}
+use Rattle.laws.specs.Lists.{one}
+use Rattle.graph.specs.Graph.{number, Graph, nodeAt}
 use Rattle.grid.specs.declared.BoxRecord.{BoxRecord}
 use Rattle.grid.specs.declared.SheetRecord.{SheetRecord}
 use Rattle.grid.specs.RenderNode.{boxWidth, boxHeight}
@@ -59,3 +60,11 @@ pub record BoxTheorem (n leads cuts : ℕ) (g : Graph) (s : SheetRecord) : Type 
   pub top : (k : ℕ) → k < s .count → 128 ≤ box s k .y
   pub right : (k : ℕ) → k < s .count → box s k .x + box s k .width + 128 ≤ s .width
   pub bottom : (k : ℕ) → k < s .count → box s k .y + box s k .height + 128 ≤ s .height
+  -- document 02, L6: a given node owns its box; 255 stands for 'a box of L5'; a cut's box is owned by 'the node whose number' it 'shows', a given one
+  pub owner-given : (k : ℕ) → k < n → box s k .owner ≡ k
+  pub owner-lead : (k : ℕ) → n ≤ k → k < n + leads → box s k .owner ≡ 255
+  pub owner-cut : (k : ℕ) → n + leads ≤ k → k < s .count → (box s k .owner < n) × (nodeAt g k .lines ≡ one (number (box s k .owner)))
+  -- 'both halves of a cut must have the pen of the block they stand for': cut j made boxes n + leads + 2 × j and the next, and they have one owner
+  pub owner-halves : (j : ℕ) → j < cuts → box s (n + leads + 2 * j) .owner ≡ box s (n + leads + 2 * j + 1) .owner
+  -- 'the owner of every box without 255 is a given node'
+  pub owners : (k : ℕ) → k < s .count → (box s k .owner ≡ 255 → ⊥) → box s k .owner < n

@@ -1,12 +1,13 @@
 -- Charts and their sheets, through the whole definition from the chart's bytes. A case has the chart in hexadecimal, the origin and the numbers of
 -- the listing: columns, rows, width, height, boxes and cuts, then column, row, x, y, width and height of each box; or both numbers of the refusal. They are the Rust's answers (docs/DIFFERENCES.md).
--- A case of leads to parts taken out has the target of 12 in the strict setting and the first six numbers in the default one.
+-- A case of leads to parts taken out has the target of 12 in the strict setting and the first six numbers in the default one. A case of owners has
+-- them in the default setting.
 -- Assumes nothing.
 use Prim.Native.Nat.{ℕ}
 use Prim.Native.String.{String}
 use mathlib.Core.Path.{_≡_, refl}
 use mathlib.Core.Bool.{Bool, true, _&&_}
-use mathlib.Core.List.{List, [], _∷_}
+use mathlib.Core.List.{List, [], _∷_, map}
 use lib.ListN.{length, take}
 use Rattle.laws.specs.Bytes.{hex, allOf, same}
 use Rattle.chart.specs.declared.Setting.the-variants.{Default, Strict}
@@ -29,6 +30,7 @@ use Rattle.grid.specs.Sheeted.{Sheeted, ready, refusal, sheetOfDag, shee
 data Case : Type 0 where
   is : String → ℕ → ℕ → List ℕ → Case
   lead : String → ℕ → List ℕ → Case
+  owned : String → List ℕ → Case
 
 abbrev boxNumbers : List Box → List ℕ
 boxNumbers [] = []
@@ -38,9 +40,14 @@ abbrev numbers : Sheeted → List ℕ
 numbers (ready s) = s .columns ∷ s .rows ∷ s .width ∷ s .height ∷ length (s .boxes) ∷ s .cuts ∷ boxNumbers (s .boxes)
 numbers (refusal a b) = a ∷ b ∷ []
 
+abbrev owners : Sheeted → List ℕ
+owners (ready s) = map (λ (b : Box). b .owner) (s .boxes)
+owners (refusal a b) = []
+
 holds : Case → Bool
 holds (is s x y ns) = same (numbers (sheeted Strict (hex s) x y)) ns
 holds (lead s t ns) = same (take 6 (numbers (sheeted Default (hex s) 0 0))) ns && same (numbers (sheeted Strict (hex s) 0 0)) (12 ∷ t ∷ [])
+holds (owned s os) = same (owners (sheeted Default (hex s) 0 0)) os
 
 cases : List Case
 cases =
@@ -132,6 +139,14 @@ cases =
     lead "01010400000030c800c800c800c800c800c800c800c800c800c800c800c800c800c800c800c800c800c800c800c800c800c800c800c800c800c800c800c800c800c800c800c800c800c800c800c800c800c800c800c800c800c800c800c800c800c800c800c800" 200 (13 ∷ 0 ∷ []) ∷
     -- a sink to itself and 46 to 200: refusal 13
     lead "0101040000002f0000c800c800c800c800c800c800c800c800c800c800c800c800c800c800c800c800c800c800c800c800c800c800c800c800c800c800c800c800c800c800c800c800c800c800c800c800c800c800c800c800c800c800c800c800c800c800" 200 (13 ∷ 0 ∷ []) ∷
+    -- 0: snk[0]: both halves of the cut show 0
+    owned "010104000000010000" (0 ∷ 0 ∷ 0 ∷ []) ∷
+    -- 0: snk[1]; 1: snk[0]: node 1's sink is cut, and both halves show 0
+    owned "010206000b0000000101000000010000" (0 ∷ 1 ∷ 0 ∷ 0 ∷ []) ∷
+    -- 0: snk[0, 200]
+    owned "010104000000020000c800" (0 ∷ 255 ∷ 0 ∷ 0 ∷ []) ∷
+    -- 0: src[7] snk[9]
+    owned "0101040001000107000900" (0 ∷ 255 ∷ 255 ∷ []) ∷
     []
 
 all-hold : allOf holds cases ≡ true

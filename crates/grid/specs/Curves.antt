@@ -36,7 +36,7 @@ curveIf none i = []
 curveIf (some o) i = record { x0 = o .x; y0 = o .y; x1 = i .x; y1 = i .y } ∷ []
 
 abbrev pub noOutputs : Box
-noOutputs = record { column = 0; row = 0; x = 0; y = 0; width = 0; height = 0; texts = []; inputs = []; outputs = [] }
+noOutputs = record { column = 0; row = 0; x = 0; y = 0; width = 0; height = 0; owner = 0; texts = []; inputs = []; outputs = [] }
 
 -- 'per input point' of box k, of all boxes bs
 abbrev pub curvesTo : List Box → ℕ → List Input → List Curve
@@ -53,7 +53,7 @@ curves s = curvesFrom (s .boxes) 0 (s .boxes)
 
 -- ---- the sheet's record, at an origin
 abbrev pub boxRecord : Box → BoxRecord
-boxRecord b = record { x = b .x; y = b .y; width = b .width; height = b .height; column = b .column; row = b .row }
+boxRecord b = record { x = b .x; y = b .y; width = b .width; height = b .height; column = b .column; row = b .row; owner = b .owner }
 
 -- every field, past the counts too
 unfoldable pub recordOf : Sheet → ℕ → ℕ → SheetRecord

@@ -13,7 +13,7 @@ use Rattle.grid.specs.declared.Curve.{Curve}
 use Rattle.grid.specs.declared.SheetRecord.{SheetRecord}
 
 abbrev pub noBox : BoxRecord
-noBox = record { x = 0; y = 0; width = 0; height = 0; column = 0; row = 0 }
+noBox = record { x = 0; y = 0; width = 0; height = 0; column = 0; row = 0; owner = 0 }
 
 abbrev pub noCurve : Curve
 noCurve = record { x0 = 0; y0 = 0; x1 = 0; y1 = 0 }

@@ -6,7 +6,7 @@ use mathlib.Core.List.{List, [], _∷_, map}
 use lib.Dec.{eqb}
 use lib.ListN.{length}
 use Rattle.laws.specs.Lists.{tabulate}
-use Rattle.graph.specs.Graph.{Node, Graph, nodeAt}
+use Rattle.graph.specs.Graph.{Line, given, number, invalid, Node, Graph, nodeAt}
 use Rattle.graph.specs.Shape.{shapeOf}
 use Rattle.grid.specs.Lists.{largest}
 use Rattle.grid.specs.Heights.{heights}
@@ -28,6 +28,13 @@ begins gap places sizes (suc c) = begins gap places sizes c + extent places size
 abbrev pub reach : ℕ → List ℕ → List ℕ → ℕ
 reach gap places sizes = begins gap places sizes (largest places) + extent places sizes (largest places) + 128
 
+-- the owner of box k, whose node has these lines (document 02, L6): 'the node itself, the node whose number a cut's box shows, or 255 for a box of L5'
+abbrev pub ownerIn : ℕ → List Line → ℕ
+ownerIn k [] = k
+ownerIn k (given t ∷ ls) = ownerIn k ls
+ownerIn k (number q ∷ ls) = q
+ownerIn k (invalid t ∷ ls) = 255
+
 -- a box's record: it spans x to x plus width and y to y plus height; texts and points are in their final places
 pub record Box : Type 0 where
   pub column : ℕ
@@ -36,6 +43,7 @@ pub record Box : Type 0 where
   pub y : ℕ
   pub width : ℕ
   pub height : ℕ
+  pub owner : ℕ
   pub texts : List Text
   pub inputs : List Input
   pub outputs : List Output
@@ -58,9 +66,9 @@ inputMoved dx dy i = record { x = i .x + dx; y = i .y + dy; from = i .from; mark
 abbrev pub outputMoved : ℕ → ℕ → Output → Output
 outputMoved dx dy o = record { x = o .x + dx; y = o .y + dy; to = o .to }
 
--- the node's box in column c and row r, at x and y
-abbrev pub boxAt : Node → ℕ → ℕ → ℕ → ℕ → Box
-boxAt n c r x y =
+-- the box of node k, n, in column c and row r, at x and y
+abbrev pub boxAt : ℕ → Node → ℕ → ℕ → ℕ → ℕ → Box
+boxAt k n c r x y =
     let d = drawn n in
     record {
       column = c;
@@ -69,6 +77,7 @@ boxAt n c r x y =
       y = y;
       width = d .width;
       height = d .height;
+      owner = ownerIn k (n .lines);
       texts = map (textMoved x y) (d .texts);
       inputs = map (inputMoved x y) (d .inputs);
       outputs = map (outputMoved x y) (d .outputs);
@@ -83,7 +92,7 @@ tallnesses g = map boxHeight g
 -- box k
 abbrev pub boxOf : Graph → List ℕ → List ℕ → ℕ → Box
 boxOf g cols rows k =
-    boxAt (nodeAt g k) (at cols k) (at rows k) (begins 1024 cols (widths g) (at cols k)) (begins 2048 rows (tallnesses g) (at rows k))
+    boxAt k (nodeAt g k) (at cols k) (at rows k) (begins 1024 cols (widths g) (at cols k)) (begins 2048 rows (tallnesses g) (at rows k))
 
 -- The sheet of the graph with these columns and rows, which has so many cuts. Columns and rows run to the largest used, so an empty chart has one empty cell.
 unfoldable pub sheetOf : Graph → ℕ → List ℕ → List ℕ → Sheet

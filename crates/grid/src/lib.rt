@@ -31,7 +31,8 @@ mod record;
 mod render_grid;
 mod render_node;
 
-// A box: its top left corner, its width and its height, and the column and row of its cell.
+// A box: its top left corner, its width and its height, the column and row of its cell, and its owner: the node itself, the node whose number a
+// cut's box shows, or 255 for the box of a lead to nothing.
 #[repr(C)]
 pub struct BoxRecord {
     pub x: u32,
@@ -40,6 +41,7 @@ pub struct BoxRecord {
     pub height: u32,
     pub column: u8,
     pub row: u8,
+    pub owner: u8,
 }
 
 // A curve: the output point x0 y0 where it begins, and the input point x1 y1 where it ends.

@@ -2,25 +2,33 @@
 ghost use mathlib.Core.Path.{_≡_};
 ghost use Prim.Native.Nat.{_≤_};
 ghost use Rattle.laws.specs.Bytes.{allOf};
-ghost use Rattle.grid.specs.Record.{noSheet, near as nearOf, boxNear, curveNear, boxesOf, curvesOf, soundOf, refusedBox, boxAnswerOf};
+ghost use Rattle.grid.specs.Record.{noBox, noSheet, near as nearOf, boxNear, curveNear, boxesOf, curvesOf, soundOf, refusedBox, boxAnswerOf};
 use crate::BoxAnswer;
 use crate::BoxRecord;
 use crate::Curve;
 use crate::SheetRecord;
 use chart::Answer;
 
-// A sheet with every field 0.
-pub fn no_sheet() -> SheetRecord
-    ensures { λ r. ⌜ r ≡ noSheet ⌝ }
+// A box with every field 0.
+pub fn no_box() -> BoxRecord
+    ensures { λ r. ⌜ r ≡ noBox ⌝ }
 {
-    let box_none = BoxRecord {
+    BoxRecord {
         x: 0,
         y: 0,
         width: 0,
         height: 0,
         column: 0,
         row: 0,
-    };
+        owner: 0,
+    }
+}
+
+// A sheet with every field 0.
+pub fn no_sheet() -> SheetRecord
+    ensures { λ r. ⌜ r ≡ noSheet ⌝ }
+{
+    let box_none = no_box();
     let curve_none = Curve {
         x0: 0,
         y0: 0,
@@ -130,17 +138,9 @@ pub fn sound(s: SheetRecord) -> bool
 fn refused_box(number: u8) -> BoxAnswer
     ensures { λ r. ⌜ r ≡ refusedBox number ⌝ }
 {
-    let none = BoxRecord {
-        x: 0,
-        y: 0,
-        width: 0,
-        height: 0,
-        column: 0,
-        row: 0,
-    };
     BoxAnswer {
         answer: Answer::Refused(number, 0),
-        place: none,
+        place: no_box(),
     }
 }
 

@@ -9,10 +9,11 @@ ghost use Rattle.grid.specs.Lists.{largest};
 ghost use Rattle.grid.specs.RenderGrid.{extent as extentOf, sheetOf};
 ghost use Rattle.grid.specs.Curves.{outputAt, firstTo, outputFor, recordOf};
 ghost use Rattle.grid.specs.code.Rendered.{Seated};
-ghost use Rattle.grid.specs.code.Laid.{Bounded, sizesIn, beginsTo, boxesFrom, runAt, Movable, Low, foundOf, laidOutputs, noCurves, curvesAt};
+ghost use Rattle.grid.specs.code.Laid.{Bounded, sizesIn, beginsTo, ownerBy, boxesFrom, runAt, Movable, Low, foundOf, laidOutputs, noCurves, curvesAt};
 use crate::BoxRecord;
 use crate::Curve;
 use crate::SheetRecord;
+use crate::record::no_box;
 use crate::render_node::Run;
 use crate::render_node::render_nodes;
 use graph::Table;
@@ -116,8 +117,22 @@ fn total_of(
     starts[last as usize] + extent(places, nodes, field, n, last) + 128
 }
 
+// The owner of box k, by the name of its node: the node that the name is the number of, 255 where it is a target that is no node, k where there is none.
+fn owner_of(name: u16, k: u8) -> u8
+    ensures { λ r. ⌜ r ≡ ownerBy name k ⌝ }
+{
+    if name == 512 {
+        return k;
+    }
+    if name < 256 {
+        return name as u8;
+    }
+    255
+}
+
 // The records of the first n boxes, where columns begin at xs and rows at ys.
 fn box_records(
+    names: &[u16; 48],
     nodes: &[u32; 384],
     xs: &[u32; 144],
     ys: &[u32; 144],
@@ -128,16 +143,9 @@ fn box_records(
     requires { ⌜ n ≤ 48 ⌝ }
     requires { ⌜ Bounded 143 (now cols) n ⌝ }
     requires { ⌜ Bounded 143 (now rows) n ⌝ }
-    ensures { λ r. ⌜ r ≡ boxesFrom (now (nodes .entry)) (now (xs .entry)) (now (ys .entry)) (now (cols .entry)) (now (rows .entry)) n ⌝ }
+    ensures { λ r. ⌜ r ≡ boxesFrom (now (names .entry)) (now (nodes .entry)) (now (xs .entry)) (now (ys .entry)) (now (cols .entry)) (now (rows .entry)) n ⌝ }
 {
-    let none = BoxRecord {
-        x: 0,
-        y: 0,
-        width: 0,
-        height: 0,
-        column: 0,
-        row: 0,
-    };
+    let none = no_box();
     let mut boxes = [none; 48];
     let mut k = 0usize;
     while k < n {
@@ -150,6 +158,7 @@ fn box_records(
             height: nodes[8 * k + 1],
             column: c,
             row: r,
+            owner: owner_of(names[k], k as u8),
         };
         k += 1;
     }
@@ -317,7 +326,8 @@ pub fn laid(g: Tables, rows: &[u8; 48], cols: &[u8; 48], x: u32, y: u32) -> Shee
     let sources = g.sources;
     let sinks = g.sinks;
     let drawn = all_curves(sources, sinks, &nodes, &xs, &ys, cols, rows, n);
-    let boxes = box_records(&nodes, &xs, &ys, cols, rows, n);
+    let names = g.names;
+    let boxes = box_records(&names, &nodes, &xs, &ys, cols, rows, n);
     let list = drawn.curves;
     SheetRecord {
         width: total_of(cols, &nodes, 0, n, last_column, &xs),

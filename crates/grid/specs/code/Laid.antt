@@ -4,7 +4,7 @@ use Prim.Native.Nat.{ℕ, _+_, _*_, _≤_, _<_}
 use mathlib.Core.Option.{Option, none, some}
 use mathlib.Core.Bool.{cond, _&&_}
 use mathlib.Core.List.{List, [], _∷_, _++_}
-use lib.Dec.{ltb}
+use lib.Dec.{eqb, ltb}
 use lib.ListN.{getD, set, replicate, take}
 use Rattle.laws.specs.Lists.{one, tabulate, padded}
 use Rattle.graph.specs.declared.Item.{Item}
@@ -41,9 +41,13 @@ abbrev pub beginsTo : ℕ → List ℕ → List ℕ → ℕ → List ℕ
 beginsTo gap places sizes k = padded 144 0 (tabulate (begins gap places sizes) 0 k)
 
 -- ---- boxes
+-- the owner of box k, whose node has the line that is held by the number m: 512 is none, below 256 a given node's number
+abbrev pub ownerBy : ℕ → ℕ → ℕ
+ownerBy m k = cond (eqb m 512) k (cond (ltb m 256) m 255)
+
 -- box k, where columns begin at xs and rows at ys
-abbrev pub boxFrom : List ℕ → List ℕ → List ℕ → List ℕ → List ℕ → ℕ → BoxRecord
-boxFrom nodes xs ys cols rows k =
+abbrev pub boxFrom : List ℕ → List ℕ → List ℕ → List ℕ → List ℕ → List ℕ → ℕ → BoxRecord
+boxFrom names nodes xs ys cols rows k =
     record {
       x = getD xs (getD cols k 0) 0;
       y = getD ys (getD rows k 0) 0;
@@ -51,10 +55,11 @@ boxFrom nodes xs ys cols rows k =
       height = getD nodes (8 * k + 1) 0;
       column = getD cols k 0;
       row = getD rows k 0;
+      owner = ownerBy (getD names k 0) k;
     }
 
-abbrev pub boxesFrom : List ℕ → List ℕ → List ℕ → List ℕ → List ℕ → ℕ → List BoxRecord
-boxesFrom nodes xs ys cols rows n = padded 48 noBox (tabulate (boxFrom nodes xs ys cols rows) 0 n)
+abbrev pub boxesFrom : List ℕ → List ℕ → List ℕ → List ℕ → List ℕ → List ℕ → ℕ → List BoxRecord
+boxesFrom names nodes xs ys cols rows n = padded 48 noBox (tabulate (boxFrom names nodes xs ys cols rows) 0 n)
 
 -- ---- points in their final places
 -- `translate`: the inputs (from 2 on) or the outputs (from 5 on) of box k

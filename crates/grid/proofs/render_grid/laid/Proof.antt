@@ -93,6 +93,19 @@ module _ (b : tie.After-line-begins2) where
   last-y : getD ys low 0 ≤ 1250000000
   last-y = begun-le 2048 (take n (rows a)) (sizesIn (ns a) 1 n) ys (omega arith) (tall a) ys-at low (omega (arith, a .largest-of2 .ensures)) (low-le a)
 
+-- back from the height, the width, the boxes and the curves
+abbrev wide-of : tie.After-total-of2 → tie.After-total-of
+wide-of c = c .before .before .before
+
+abbrev boxes-of : tie.After-total-of → tie.After-box-records
+boxes-of c = c .before .before .before .before
+
+abbrev curves-of : tie.After-box-records → tie.After-all-curves
+curves-of c = c .before .before .before .before .before .before
+
+abbrev lines-of : tie.After-all-curves → tie.After-line-begins2
+lines-of c = c .before .before .before .before .before .before
+
 render-nodes-requires : tie.Need-render-nodes-requires
 render-nodes-requires c κs = search needs
 
@@ -126,37 +139,48 @@ all-curves-requires c κs =
 
 box-records-requires : tie.Need-box-records-requires
 box-records-requires c κs =
-    let d = a (c .before .before .before .before .before .before .before .before .before) in
+    let d = a (lines-of (c .before .before .before .before .before)) in
     (z d .pre .0 .linked .nodes, (z d .pre .1 .1, low-rows d))
 
 total-of-requires : tie.Need-total-of-requires
 total-of-requires c κs =
-    let b = c .before .before .before .before .before .before .before .before .before .before .before .before .before in
+    let b = lines-of (curves-of (c .before .before .before)) in
     let d = a b in
     (z d .pre .0 .linked .nodes, (cols-room d, (omega arith, (right-le d, (wide d, last-x b)))))
 
 total-of-requires-2 : tie.Need-total-of-requires-2
 total-of-requires-2 c κs =
-    let b = c .before .before .before .before .before .before .before .before .before .before .before .before .before .before .before .before in
+    let b = lines-of (curves-of (boxes-of (c .before .before))) in
     let d = a b in
     (z d .pre .0 .linked .nodes, (rows-room d, (omega arith, (low-le d, (tall d, last-y b)))))
 
-add-t24 : tie.Need-add-t24
-add-t24 c = omega (arith, right-le (a (c .before .before .before .before .before .before .before .before .before .before .before .before .before .before .before .before .before)))
+-- at the end
+module _ (c : tie.After-total-of2) where
+  abbrev boxed : tie.After-box-records
+  boxed = boxes-of (wide-of c)
 
-add-t40 : tie.Need-add-t40
-add-t40 c = omega (arith, low-le (a (c .before .before .before .before .before .before .before .before .before .before .before .before .before .before .before .before .before)))
+  abbrev curved : tie.After-all-curves
+  curved = curves-of boxed
 
-cast-t41 : tie.Need-cast-t41
-cast-t41 c = omega (arith, z (a (c .before .before .before .before .before .before .before .before .before .before .before .before .before .before .before .before .before)) .pre .0 .linked .nodes)
+  abbrev lined : tie.After-line-begins2
+  lined = lines-of curved
+
+add-t25 : tie.Need-add-t25
+add-t25 c = omega (arith, right-le (a (lined c)))
+
+add-t42 : tie.Need-add-t42
+add-t42 c = omega (arith, low-le (a (lined c)))
+
+cast-t43 : tie.Need-cast-t43
+cast-t43 c = omega (arith, z (a (lined c)) .pre .0 .linked .nodes)
 
 returns : tie.Need-returns
 returns c =
-    let b = c .before .before .before .before .before .before .before .before .before .before .before .before .before .before .before .before .before in
+    let b = lined c in
     let d = a b in
     laid-is (z d .args .g) (z d .pre .0) (cols d) (rows d) (cols-room d) (rows-room d) (z d .pre .1 .1) (low-rows d) (ns d) (noted d) (xs b) (ys b) (xs-at b) (ys-at b)
-    (right b) (low b) (c .before .before .before .total-of .result) (c .total-of2 .result) (c .before .before .before .before .before .before .before .box-records .result) (c .before .before .before .before .before .before .before .before .before .before .before .all-curves .result)
-    (d .before .before .largest-of .ensures) (d .largest-of2 .ensures) (c .before .before .before .total-of .ensures) (c .total-of2 .ensures) (c .before .before .before .before .before .before .before .box-records .ensures) (c .before .before .before .before .before .before .before .before .before .before .before .all-curves .ensures)
+    (right b) (low b) (wide-of c .total-of .result) (c .total-of2 .result) (boxed c .box-records .result) (curved c .all-curves .result)
+    (d .before .before .largest-of .ensures) (d .largest-of2 .ensures) (wide-of c .total-of .ensures) (c .total-of2 .ensures) (boxed c .box-records .ensures) (curved c .all-curves .ensures)
     (z d .args .x) (z d .args .y)
 
 pub laid-spec : {M : Type 1} → statement M
@@ -174,7 +198,7 @@ laid-spec =
     box-records-requires
     total-of-requires
     total-of-requires-2
-    add-t24
-    add-t40
-    cast-t41
+    add-t25
+    add-t42
+    cast-t43
     returns)
