@@ -1,6 +1,6 @@
 /* The functions for C, each called on every chart of a list; compiled as C and as C++. Standard input: charts, one hexadecimal
    line each, in the strict setting or, where the line begins with `D`, in the default one. Standard output: the listing of each
-   with its labels and curves and an empty line, as the program `full` prints it. A check that fails is said on standard error,
+   with its owners, labels and curves and an empty line, as the program `full` prints it. A check that fails is said on standard error,
    with exit status 1; else that has one line, how many charts there were. */
 #include <stdio.h>
 #include <stdlib.h>
@@ -31,10 +31,10 @@ static int marked(const uint8_t *buffer, size_t n) {
 }
 
 /* ---- results */
-static int no_box(margalhosa_box_record b) { return !(b.x | b.y | b.width | b.height | b.column | b.row); }
+static int no_box(margalhosa_box_record b) { return !(b.x | b.y | b.width | b.height | b.column | b.row | b.owner); }
 
 static int same_box(margalhosa_box_record a, margalhosa_box_record b) {
-    return a.x == b.x && a.y == b.y && a.width == b.width && a.height == b.height && a.column == b.column && a.row == b.row;
+    return a.x == b.x && a.y == b.y && a.width == b.width && a.height == b.height && a.column == b.column && a.row == b.row && a.owner == b.owner;
 }
 
 static int same_sheet(const margalhosa_sheet_result *a, const margalhosa_sheet_result *b) {
@@ -239,13 +239,22 @@ static void check_built(margalhosa_sheet_record s) {
     need(counted(margalhosa_text(s, buffer, TEXT), 14, 0, 0) && marked(buffer, TEXT), "a built sheet's text: 14");
 }
 
+/* Box 0 of a built sheet comes back as it is, with whatever owner it has. */
+static void check_owner(margalhosa_sheet_record s) {
+    for (int owner = 0; owner < 256; owner++) {
+        s.boxes[0].owner = (uint8_t)owner;
+        margalhosa_box_result b = margalhosa_box(s, 0);
+        need(b.refused == 0 && b.second == 0 && same_box(b.place, s.boxes[0]), "a built sheet's box, with any owner");
+    }
+}
+
 /* A sheet built by a caller that is accepted: one box, and two curves whose halfway heights have `.5`, down to the last position.
    Its size, columns, rows and cuts are not looked at. */
 static void check_accepted(void) {
     static const char expected[] = "M 101 8388602 L 104 8388602 L 104 8388606 L 101 8388606 Z"
                                    " M 102 8388603 C 102 8388605.5 8388608 8388605.5 8388608 8388608"
                                    " M 100 8388607 C 100 8388607.5 105 8388607.5 105 8388608";
-    static const margalhosa_box_record box = {1, 2, 3, 4, 255, 255};
+    static const margalhosa_box_record box = {1, 2, 3, 4, 255, 255, 200};
     static const margalhosa_curve long_one = {2, 3, LIMIT - 100, 8}, short_one = {0, 7, 5, 8};
     static uint8_t text[TEXT];
     margalhosa_sheet_record s;
@@ -259,6 +268,7 @@ static void check_accepted(void) {
     s.curves[1] = short_one;
     margalhosa_box_result b = margalhosa_box(s, 0);
     need(b.refused == 0 && b.second == 0 && same_box(b.place, box), "a built sheet's box");
+    check_owner(s);
     need(refused_box(margalhosa_box(s, 1), 15), "a box that a built sheet doesn't have: 15");
     size_t n = check_text(s, text);
     need(n == strlen(expected) && memcmp(text, expected, n) == 0, "a built sheet's text");
@@ -299,6 +309,12 @@ static void check_origin(const uint8_t *chart, size_t n, margalhosa_sheet_record
 }
 
 /* ---- a chart's listing */
+static void print_owners(margalhosa_sheet_record s) {
+    printf("owners");
+    for (uint32_t k = 0; k < s.count; k++) printf(" %u", margalhosa_box(s, k).place.owner);
+    printf("\n");
+}
+
 static void print_curves(margalhosa_sheet_record s) {
     for (uint32_t k = 0; k < s.drawn; k++) {
         margalhosa_curve c = s.curves[k];
@@ -317,6 +333,7 @@ static void drawn(const uint8_t *chart, size_t n, margalhosa_sheet_record s) {
     need(refused_box(margalhosa_box(s, s.count), 15) && refused_box(margalhosa_box(s, UINT32_MAX), 15), "a box that isn't there: 15");
     size_t size = check_text(s, text);
     printf("path%s%.*s\n", size > 0 ? " " : "", (int)size, (const char *)text);
+    print_owners(s);
     check_segments(s, text, size);
     check_labels(chart, n, s);
     print_curves(s);
@@ -371,6 +388,7 @@ static void check_lead(void) {
     const size_t n = sizeof chart, size = MARGALHOSA_TABLE_LENGTH;
     margalhosa_sheet_result r = margalhosa_sheet(chart, n, 0, 0, MARGALHOSA_DEFAULT);
     need(r.refused == 0 && r.sheet.count == 2 && r.sheet.cuts == 0 && r.sheet.width == 3968 && r.sheet.height == 3328, "a lead to nothing: its sheet");
+    need(r.sheet.boxes[0].owner == 0 && r.sheet.boxes[1].owner == 255, "a lead to nothing: no node owns its box");
     margalhosa_label_result l = margalhosa_label_place(chart, n, 0, 0, MARGALHOSA_DEFAULT, table, size, 1, 0);
     need(l.refused == 0 && l.x == 320 && l.y == 3008 && l.size == 464 && l.width == 3328, "a lead to nothing: its label's place");
     margalhosa_part_result p = margalhosa_label_part(chart, n, 0, 0, MARGALHOSA_DEFAULT, table, size, 1, 0);

@@ -76,7 +76,7 @@ enum { MARGALHOSA_MOVE = 0, MARGALHOSA_LINE = 1, MARGALHOSA_CUBIC = 2, MARGALHOS
 /* A box: its top left corner, its width and its height, and the column and row of its cell. */
 typedef struct {
     uint32_t x, y, width, height;
-    uint8_t column, row;
+    uint8_t column, row, owner;
 } margalhosa_box_record;
 
 /* A curve: the output point x0 y0 where it begins, and the input point x1 y1 where it ends. */

@@ -9,6 +9,7 @@ pub struct Box {
     pub height: u32,
     pub column: u8,
     pub row: u8,
+    pub owner: u8,
 }
 
 #[repr(C)]

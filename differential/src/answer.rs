@@ -133,6 +133,25 @@ pub fn path(boxes: &[Placed], x: u32, y: u32) -> String {
     out
 }
 
+/// The owner of each box: so many given nodes own themselves; of an inserted one its
+/// only text tells: `#q` is node q's, `#t(invalid)` nobody's (255).
+fn owners(boxes: &[Placed], given: usize) -> Vec<usize> {
+    let shown = |node: &RenderNode<Node>| {
+        let [(_, _, _, text)] = &node.text[..] else {
+            panic!("an inserted box has one text")
+        };
+        let number = text.strip_prefix('#').expect("a pointer's Debug text");
+        if number.ends_with("(invalid)") {
+            255
+        } else {
+            number.parse().expect("a node's number")
+        }
+    };
+    let all = boxes.iter().enumerate();
+    all.map(|(k, (_, _, node))| if k < given { k } else { shown(node) })
+        .collect()
+}
+
 /// Texts of every box, and the two ends of every curve.
 fn labels(boxes: &[Placed]) -> String {
     let mut out = String::new();
@@ -178,10 +197,10 @@ pub fn boxes(grid: &RenderGrid<Node>) -> Vec<Placed<'_>> {
 }
 
 /// The listing of a grid made of so many given nodes and leads to nothing.
-fn sheet(grid: &RenderGrid<Node>, given: usize, asked: Asked) -> String {
+fn sheet(grid: &RenderGrid<Node>, given: usize, leads: usize, asked: Asked) -> String {
     let count = grid.dag.len();
-    assert!((count - given).is_multiple_of(2));
-    let cuts = (count - given) / 2;
+    assert!((count - given - leads).is_multiple_of(2));
+    let cuts = (count - given - leads) / 2;
     if count > MAX_BOXES {
         return Refusal(13, 0).line();
     }
@@ -204,6 +223,14 @@ fn sheet(grid: &RenderGrid<Node>, given: usize, asked: Asked) -> String {
     out += &path;
     out += "\n";
     if asked.full {
+        let owners = owners(&boxes, given);
+        assert!(owners.iter().all(|owner| *owner < given || *owner == 255));
+        assert_eq!(owners.iter().filter(|owner| **owner == 255).count(), leads);
+        out += "owners";
+        for owner in owners {
+            out += &format!(" {owner}");
+        }
+        out += "\n";
         out += &labels(&boxes);
     }
     if asked.points {
@@ -219,7 +246,7 @@ pub fn listing(asking: &Asking, asked: Asked) -> String {
         Err(refusal) => return refusal.line(),
     };
     match run(&bodies, asking.setting) {
-        Ok(Ok(grid)) => sheet(&grid, bodies.len() + chart::leads(&bodies), asked),
+        Ok(Ok(grid)) => sheet(&grid, bodies.len(), chart::leads(&bodies), asked),
         Ok(Err(refusal)) => refusal.line(),
         Err(text) => format!("panic {text}\n"),
     }

@@ -318,7 +318,7 @@ pub fn listed(chart: &[u8]) -> &[u8] {
 /// What the listing programs are asked for.
 #[derive(Clone, Copy, Default)]
 pub struct Asked {
-    /// Texts and the ends of curves too.
+    /// Owners, texts and the ends of curves too.
     pub full: bool,
     /// Input points and output points too.
     pub points: bool,

@@ -23,7 +23,7 @@ const USAGE: &str = "compare [options] PROGRAM [ARGUMENT ..]
   --batch      the program reads hex lines and ends each listing by an empty line;
                otherwise it is run once for each chart, on raw bytes
   --block N    charts for one run in batch mode (5000)
-  --full       the program prints texts and curves as `oracle --full` does
+  --full       the program prints owners, texts and curves as `oracle --full` does
   --points     it prints points as `oracle --points` does
   --x N --y N  the origin that the program was told of (0 0)";
 

@@ -5,7 +5,7 @@ use chart::{Asked, Setting};
 const USAGE: &str = "oracle [--batch | --default] [--full] [--points] [--x N] [--y N] < charts
   one binary chart on standard input, or with --batch hex lines; it is strict,
   or with --default (a line: with D before the digits) leads to nothing are drawn
-  --full   every box's texts and the ends of every curve too
+  --full   every box's owner and texts and the ends of every curve too
   --points every box's input points and output points too
   --x, --y the origin (0 0)";
 

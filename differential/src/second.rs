@@ -1,12 +1,15 @@
 //! A second reading: document 01's modules 2 to 9 over plain vectors, written
 //! from the document's words and not from the Rust's code (the sizes of module
 //! 8 excepted, which the document takes from `RenderNode::new` and
-//! `RenderGrid::new`), and the leads to nothing from document 02's words (L5). It
-//! shares the chart reader with the oracle, nothing else.
+//! `RenderGrid::new`), and the leads to nothing and the owners from document 02's
+//! words (L5, L6). It shares the chart reader with the oracle, nothing else.
 
 use std::collections::BTreeMap;
 
 use chart::{Asked, Asking, Body, MAX_BOXES, MAX_POSITION, Refusal, Setting};
+
+/// The owner of a lead's box.
+const NONE: usize = 255;
 
 #[derive(Clone)]
 struct Source {
@@ -26,6 +29,7 @@ struct Node {
     sources: Vec<Source>,
     lines: Vec<Vec<u8>>,
     sinks: Vec<Sink>,
+    owner: usize,
 }
 
 impl Node {
@@ -49,7 +53,7 @@ fn targets(bodies: &[Body]) -> Result<(), Refusal> {
 }
 
 fn given(bodies: &[Body]) -> Vec<Node> {
-    let node = |body: &Body| Node {
+    let node = |(k, body): (usize, &Body)| Node {
         sources: (body.sources.iter())
             .map(|end| Source {
                 target: end.target.into(),
@@ -64,8 +68,9 @@ fn given(bodies: &[Body]) -> Vec<Node> {
                 text: end.text.clone(),
             })
             .collect(),
+        owner: k,
     };
-    bodies.iter().map(node).collect()
+    bodies.iter().enumerate().map(node).collect()
 }
 
 /// Module 2. An end that leads to no node is passed over.
@@ -119,6 +124,7 @@ fn join(nodes: &mut Vec<Node>) -> Result<(), Refusal> {
                     }],
                     lines: lines(target),
                     sinks: vec![],
+                    owner: NONE,
                 });
             }
         }
@@ -133,6 +139,7 @@ fn join(nodes: &mut Vec<Node>) -> Result<(), Refusal> {
                         target: p,
                         text: vec![],
                     }],
+                    owner: NONE,
                 });
             }
         }
@@ -197,6 +204,7 @@ impl Cutting {
             }],
             lines: vec![line.clone()],
             sinks: vec![],
+            owner: q,
         });
         self.nodes[c].sinks[s].target = first;
         self.nodes.push(Node {
@@ -206,6 +214,7 @@ impl Cutting {
                 target: q,
                 text: vec![],
             }],
+            owner: q,
         });
         for source in &mut self.nodes[q].sources {
             if source.target == c {
@@ -671,6 +680,8 @@ fn sheet(layout: &Layout, asked: Asked) -> Result<String, Refusal> {
     out += &words.join(" ");
     out += "\n";
     if asked.full {
+        let owners: Vec<_> = nodes.iter().map(|node| node.owner).collect();
+        out += &format!("owners{}\n", numbers(&owners));
         for (k, one) in sized.iter().enumerate() {
             for (i, (lx, ly, size, width, text)) in one.labels.iter().enumerate() {
                 let (x, y) = point(k, (*lx, *ly));
@@ -813,7 +824,7 @@ const USAGE: &str =
 second --path-text [--buffer N] < text
   one binary chart on standard input, or with --batch hex lines; it is strict,
   or with --default (a line: with D before the digits) leads to nothing are drawn
-  --full       every box's texts and the ends of every curve too
+  --full       every box's owner and texts and the ends of every curve too
   --points     every box's input points and output points too
   --stages     instead of the listing, the stages of the layout (strict only)
   --path-text  a path text on standard input: its count of segments, or its
