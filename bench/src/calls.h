@@ -38,7 +38,8 @@ static uint32_t sum_sheet(void) {
   h = sum_of(sum_of(sum_of(sum_of(sum_of(h, s->columns, 1), s->rows, 1), s->cuts, 1), s->count, 1), s->drawn, 1);
   for (int i = 0; i < 48; i++) {
     const margalhosa_box_record *b = &s->boxes[i];
-    h = sum_of(sum_of(sum_of(sum_of(sum_of(sum_of(h, b->x, 4), b->y, 4), b->width, 4), b->height, 4), b->column, 1), b->row, 1);
+    h = sum_of(sum_of(sum_of(sum_of(h, b->x, 4), b->y, 4), b->width, 4), b->height, 4);
+    h = sum_of(sum_of(sum_of(h, b->column, 1), b->row, 1), b->owner, 1);
   }
   for (int i = 0; i < 88; i++) {
     const margalhosa_curve *c = &s->curves[i];
