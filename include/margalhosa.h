@@ -73,7 +73,12 @@ enum { MARGALHOSA_DEFAULT = 0, MARGALHOSA_STRICT = 1 };
 /* The kinds of segment. */
 enum { MARGALHOSA_MOVE = 0, MARGALHOSA_LINE = 1, MARGALHOSA_CUBIC = 2, MARGALHOSA_CLOSE = 3 };
 
-/* A box: its top left corner, its width and its height, and the column and row of its cell. */
+/* The owner of the box of a lead to nothing. */
+#define MARGALHOSA_NO_OWNER 255
+
+/* A box: its top left corner, its width and its height, the column and row of its cell, and its owner: the node itself,
+   for both boxes of a cut the node whose number they show, or MARGALHOSA_NO_OWNER. On a sheet that margalhosa_sheet has
+   drawn, every other owner is a given node; of a sheet of the caller's own making it is what the caller put there. */
 typedef struct {
     uint32_t x, y, width, height;
     uint8_t column, row, owner;
@@ -184,6 +189,7 @@ margalhosa_count_result margalhosa_rewrite(const uint8_t *text, uint64_t text_le
 #elif defined(__STDC_VERSION__) && __STDC_VERSION__ >= 201112L
 _Static_assert(MARGALHOSA_TABLE_LENGTH == 3293, "the stand-in table");
 _Static_assert(sizeof(margalhosa_box_record) == 20, "a box");
+_Static_assert(offsetof(margalhosa_box_record, owner) == 18, "a box's owner");
 _Static_assert(sizeof(margalhosa_curve) == 16, "a curve");
 _Static_assert(sizeof(margalhosa_sheet_record) == 2392, "a sheet");
 _Static_assert(offsetof(margalhosa_sheet_record, boxes) == 24, "a sheet's boxes");

@@ -13,6 +13,8 @@ ghost use Rattle.path.specs.Label.{standIns};
 ghost use Rattle.path.specs.Promises.{IsWritten};
 use chart::Answer;
 use chart::Setting;
+use grid::BoxRecord;
+use grid::NO_OWNER;
 use grid::SheetRecord;
 use libc::STDERR_FILENO;
 use libc::STDOUT_FILENO;
@@ -66,6 +68,65 @@ fn put_head(width: u32, height: u32) {
     put_attribute(b"width", width);
     put_attribute(b"height", height);
     put(b" fill=\"white\"/>\n");
+}
+
+// The colour of a box: one of eight for each given node, which colour-blind readers tell apart (Okabe and Ito's); grey for the box of a lead to nothing.
+fn put_colour(owner: u8) {
+    if owner == NO_OWNER {
+        put(b"#999999");
+        return;
+    }
+    match owner % 8 {
+        0 => put(b"#0072b2"),
+        1 => put(b"#d55e00"),
+        2 => put(b"#009e73"),
+        3 => put(b"#000000"),
+        4 => put(b"#e69f00"),
+        5 => put(b"#56b4e9"),
+        6 => put(b"#f0e442"),
+        _ => put(b"#cc79a7"),
+    }
+}
+
+// How its border is dashed. With the colour it tells any two of 32 nodes apart; of two whose colours are as dark in print, nodes 0 to 3 or 4 to 7 say, each is
+// dashed otherwise.
+fn put_dashes(owner: u8) {
+    if owner == NO_OWNER {
+        return;
+    }
+    match (owner % 8 + owner / 8) % 4 {
+        0 => {}
+        1 => put(b" stroke-dasharray=\"192 96\""),
+        2 => put(b" stroke-dasharray=\"64 64\""),
+        _ => put(b" stroke-dasharray=\"256 64 64 64\""),
+    }
+}
+
+// A box in its owner's colour, under the sheet's path: its border, and a tint of it inside. (The box of a lead to nothing has no tint.)
+fn put_box(b: BoxRecord) {
+    put(b"<rect");
+    put_attribute(b"x", b.x);
+    put_attribute(b"y", b.y);
+    put_attribute(b"width", b.width);
+    put_attribute(b"height", b.height);
+    put(b" fill=\"");
+    put_colour(b.owner);
+    put(b"\" stroke=\"");
+    put_colour(b.owner);
+    put(b"\"");
+    put_dashes(b.owner);
+    put(b"/>\n");
+}
+
+fn put_boxes(s: SheetRecord)
+    requires { ⌜ soundOf s ≡ true ⌝ }
+{
+    put(b"<g fill-opacity=\"0.15\" stroke-width=\"80\">\n");
+    let boxes = s.boxes;
+    for k in 0..s.count as usize {
+        put_box(boxes[k]);
+    }
+    put(b"</g>\n");
 }
 
 // Puts the text of a sound sheet at the buffer's start and answers its length. None is refused: such a text has at most 9,887 bytes.
@@ -155,6 +216,7 @@ fn draw_sheet(chart: &[u8], s: SheetRecord)
     requires { ⌜ soundOf s ≡ true ⌝ }
 {
     put_head(s.width, s.height);
+    put_boxes(s);
     put_path(s);
     put(b"<g font-family=\"monospace\">\n");
     draw_labels(chart, s.count);

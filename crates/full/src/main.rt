@@ -1,5 +1,6 @@
-// Charts in hexadecimal, one on each line of standard input: the listing of each, as the program `replay` prints it, its labels, the ends of its
-// curves, and an empty line. A label is `text BOX LABEL X Y SIZE WIDTH TEXT`, a curve `curve NUMBER X0 Y0 X1 Y1`: the lines of `oracle --full`.
+// Charts in hexadecimal, one on each line of standard input: the listing of each, as the program `replay` prints it, the owners of its boxes, its
+// labels, the ends of its curves, and an empty line. The owners are one line, `owners` and a number for each box; a label is
+// `text BOX LABEL X Y SIZE WIDTH TEXT`, a curve `curve NUMBER X0 Y0 X1 Y1`: the lines of `oracle --full`.
 // A line that begins with `D` is a chart in the default setting; any other is strict.
 ghost use mathlib.Core.Path.{_≡_};
 ghost use mathlib.Core.Bool.{true};
@@ -78,6 +79,22 @@ fn print_path(s: SheetRecord)
         put(b" ");
     }
     put(&text[..n]);
+    put(b"\n");
+}
+
+fn print_owner(b: BoxRecord) {
+    number(b.owner as u64);
+}
+
+// The owners of the boxes, on one line.
+fn print_owners(s: SheetRecord)
+    requires { ⌜ soundOf s ≡ true ⌝ }
+{
+    put(b"owners");
+    let boxes = s.boxes;
+    for k in 0..s.count as usize {
+        print_owner(boxes[k]);
+    }
     put(b"\n");
 }
 
@@ -171,6 +188,7 @@ fn print_chart(chart: &[u8], setting: Setting) {
     match a {
         Answer::Ready => {
             print_sheet(s);
+            print_owners(s);
             print_labels(chart, setting, s.count);
             print_curves(s);
         }

@@ -147,6 +147,8 @@ cases =
     owned "010104000000020000c800" (0 ∷ 255 ∷ 0 ∷ 0 ∷ []) ∷
     -- 0: src[7] snk[9]
     owned "0101040001000107000900" (0 ∷ 255 ∷ 255 ∷ []) ∷
+    -- 0: snk[1]; 1: snk[1, 0]: two cuts from node 1, which show 1 and then 0
+    owned "010206000b00000001010000000201000000" (0 ∷ 1 ∷ 1 ∷ 1 ∷ 0 ∷ 0 ∷ []) ∷
     []
 
 all-hold : allOf holds cases ≡ true

@@ -31,8 +31,11 @@ mod record;
 mod render_grid;
 mod render_node;
 
+// The owner of the box of a lead to nothing.
+pub const NO_OWNER: u8 = 255;
+
 // A box: its top left corner, its width and its height, the column and row of its cell, and its owner: the node itself, the node whose number a
-// cut's box shows, or 255 for the box of a lead to nothing.
+// cut's box shows, or NO_OWNER.
 #[repr(C)]
 pub struct BoxRecord {
     pub x: u32,

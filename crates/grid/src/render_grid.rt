@@ -12,6 +12,7 @@ ghost use Rattle.grid.specs.code.Rendered.{Seated};
 ghost use Rattle.grid.specs.code.Laid.{Bounded, sizesIn, beginsTo, ownerBy, boxesFrom, runAt, Movable, Low, foundOf, laidOutputs, noCurves, curvesAt};
 use crate::BoxRecord;
 use crate::Curve;
+use crate::NO_OWNER;
 use crate::SheetRecord;
 use crate::record::no_box;
 use crate::render_node::Run;
@@ -117,7 +118,7 @@ fn total_of(
     starts[last as usize] + extent(places, nodes, field, n, last) + 128
 }
 
-// The owner of box k, by the name of its node: the node that the name is the number of, 255 where it is a target that is no node, k where there is none.
+// The owner of box k, by its node's name: the node whose number it is, NO_OWNER if it is a target that is no node, k if there is no name.
 fn owner_of(name: u16, k: u8) -> u8
     ensures { λ r. ⌜ r ≡ ownerBy name k ⌝ }
 {
@@ -127,7 +128,7 @@ fn owner_of(name: u16, k: u8) -> u8
     if name < 256 {
         return name as u8;
     }
-    255
+    NO_OWNER
 }
 
 // The records of the first n boxes, where columns begin at xs and rows at ys.

@@ -42,7 +42,7 @@ reading (refused n p) ds = false
 
 -- ---- sheets
 abbrev box : ℕ → ℕ → ℕ → ℕ → BoxRecord
-box x y w h = record { x = x; y = y; width = w; height = h; column = 0; row = 0 }
+box x y w h = record { x = x; y = y; width = w; height = h; column = 0; row = 0; owner = 0 }
 
 abbrev curve : ℕ → ℕ → ℕ → ℕ → Curve
 curve x0 y0 x1 y1 = record { x0 = x0; y0 = y0; x1 = x1; y1 = y1 }

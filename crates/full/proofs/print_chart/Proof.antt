@@ -13,11 +13,14 @@ enum-told c = search needs
 print-sheet-requires : tie.Need-print-sheet-requires
 print-sheet-requires c κs = c .before .before .before .sheet .ensures .laid (c .enum-told .given .1) .sound
 
+print-owners-requires : tie.Need-print-owners-requires
+print-owners-requires c κs = let t = c .before in t .before .before .before .sheet .ensures .laid (t .enum-told .given .1) .sound
+
 print-labels-requires : tie.Need-print-labels-requires
 print-labels-requires c κs = search needs
 
 print-curves-requires : tie.Need-print-curves-requires
-print-curves-requires c κs = let t = c .before .before in t .before .before .before .sheet .ensures .laid (t .enum-told .given .1) .sound
+print-curves-requires c κs = let t = c .before .before .before in t .before .before .before .sheet .ensures .laid (t .enum-told .given .1) .sound
 
 enum-known-a : tie.Need-enum-known-a
 enum-known-a c = search needs
@@ -38,6 +41,7 @@ print-chart-spec =
     sheet-requires
     enum-told
     print-sheet-requires
+    print-owners-requires
     print-labels-requires
     print-curves-requires
     enum-known-a

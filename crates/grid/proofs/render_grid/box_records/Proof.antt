@@ -109,10 +109,11 @@ loop-less c = search needs
 loop-again : tie.Need-loop-again Inv-loop μ-loop
 loop-again c =
     let i = c .before .before .before .before .before .before .before .before in
-    let a = start i .args in
-    (search needs,
-    rw (i .before .loop .inv .1, c .owner-of .ensures)
-    (filled-next (boxFrom (a .names .now) (a .nodes .now) (a .xs .now) (a .ys .now) (a .cols .now) (a .rows .now)) 48 noBox (turn i)))
+    let a = start i .args in (
+      search needs,
+      rw (i .before .loop .inv .1, c .owner-of .ensures)
+          (filled-next (boxFrom (a .names .now) (a .nodes .now) (a .xs .now) (a .ys .now) (a .cols .now) (a .rows .now)) 48 noBox (turn i)),
+    )
 
 returns : tie.Need-returns Inv-loop μ-loop
 returns c =
