@@ -14,11 +14,11 @@ use Rattle.laws.proofs.Lists.{getD-tabulate, tabulate-list, map-tabulate}
 use Rattle.chart.specs.declared.Answer.the-variants.{Ready}
 use Rattle.chart.specs.declared.Setting.{Setting}
 use Rattle.chart.specs.Chart.{Part, Board}
-use Rattle.graph.specs.Graph.{Line, given, number, invalid, Edge, Node, Graph, noText, bare, givenNode, givenGraph, nodeAt}
+use Rattle.graph.specs.Graph.{Line, given, invalid, Edge, Node, Graph, noText, bare, givenNode, givenGraph, nodeAt}
 use Rattle.graph.specs.Shape.{shapeOf}
 use Rattle.graph.specs.Joining.{leadsOf}
 use Rattle.graph.specs.Graphed.{Dag, ready as cut, graphed, leadsIn}
-use Rattle.graph.specs.Laws.{textsAt, Begins, Named, Laws}
+use Rattle.graph.specs.Laws.{textsAt, Begins, Laws}
 use Rattle.graph.proofs.AimLaws.{all-in}
 use Rattle.chart.specs.Read.{numbersOf}
 use Rattle.graph.proofs.Gathers.{graph-laws, board-walks}
@@ -160,11 +160,6 @@ module _ (v : Setting) (s : List ℕ) (d : Dag) (laws : Laws v s d) where
         let b = laws .joined k h m in
         (b .target, b .past, lines-alone ∙ ap (λ (x : Node). x .lines) (laws .kept k h m) ∙ b .line)
 
-    labels-new : length ps + leadsOf ps ≤ k → (q : ℕ) × (q < length ps) × (labelsFor (nodeAt g k) ≡ one (number q))
-    labels-new m =
-        let n : Named (length ps) (nodeAt g k .lines) = laws .inserted k m l in
-        (n .q, n .inside, lines-alone ∙ n .line)
-
 -- ---- the sheet of a cut graph
 module _ (g : Graph) (cuts : ℕ) (cols rows : List ℕ) (wide : length cols ≡ length g) (tall : length rows ≡ length g) where
   abbrev sh : Sheet
@@ -278,8 +273,8 @@ module _ (v : Setting) (s : List ℕ) (x y : ℕ) (sh : Sheet) (e : sheeted v s 
             (z .0, z .1, t .lines k i ∙ z .2);
         inserted-labels = λ k l m.
             let i : k < length (d .dag .graph) = omega (arith, b .one-each) in
-            let z = labels-new v s (d .dag) laws k (omega arith) i (omega (arith, leads)) in
-            (z .0, z .1, t .lines k i ∙ z .2);
+            let z = b .owner-cut k (omega (arith, laws .given)) m in
+            (omega (arith, laws .given, z .0), t .lines k i ∙ lines-alone v s (d .dag) laws k (omega arith) i ∙ z .1);
       }
 
 -- what `sheet` promises

@@ -69,8 +69,8 @@ pub record LaidOut (w : Setting) (s : List ℕ) (x y : ℕ) (r : SheetRecord) : 
   pub given-labels : (k : ℕ) → k < length board → linesIn sheet k ≡ labelsFor (nodeAt (givenGraph board) k)
   -- the boxes of the leads come next: in each the target, which isn't a given node, and `(invalid)` is written, and nothing else
   pub lead-labels : (k : ℕ) → length board ≤ k → k < length board + leadsIn w s → (t : ℕ) × (length board ≤ t) × (linesIn sheet k ≡ one (invalid t))
-  -- in each other box the number of one given node is written, and nothing else
-  pub inserted-labels : (k : ℕ) → length board + leadsIn w s ≤ k → k < r .count → (q : ℕ) × (q < length board) × (linesIn sheet k ≡ one (number q))
+  -- in each other box the number of its owner, a given node, is written, and nothing else
+  pub inserted-labels : (k : ℕ) → length board + leadsIn w s ≤ k → k < r .count → (box r k .owner < length board) × (linesIn sheet k ≡ one (number (box r k .owner)))
 
 -- where the nodes of the cut graph lead
 abbrev pub shapeCut : Board → Shape
