@@ -70,7 +70,7 @@ fn put_head(width: u32, height: u32) {
     put(b" fill=\"white\"/>\n");
 }
 
-// The colour of a box: one of eight for each given node, which colour-blind readers tell apart (Okabe and Ito's); grey for the box of a lead to nothing.
+// The colour of a box: of a given node's, one of eight that colour-blind readers tell apart (Okabe and Ito's); grey where it leads to nothing.
 fn put_colour(owner: u8) {
     if owner == NO_OWNER {
         put(b"#999999");
@@ -88,8 +88,17 @@ fn put_colour(owner: u8) {
     }
 }
 
-// How its border is dashed. With the colour it tells any two of 32 nodes apart; of two whose colours are as dark in print, nodes 0 to 3 or 4 to 7 say, each is
-// dashed otherwise.
+// The tint of a box; none where it leads to nothing.
+fn put_tint(owner: u8) {
+    if owner == NO_OWNER {
+        put(b"none");
+        return;
+    }
+    put_colour(owner);
+}
+
+// How its border is dashed. With the colour it tells any two of 32 nodes apart, and in print without colour any two of the first eight: of these the
+// dark colours, 0 to 3, are each dashed otherwise, and so are the light ones.
 fn put_dashes(owner: u8) {
     if owner == NO_OWNER {
         return;
@@ -102,7 +111,7 @@ fn put_dashes(owner: u8) {
     }
 }
 
-// A box in its owner's colour, under the sheet's path: its border, and a tint of it inside. (The box of a lead to nothing has no tint.)
+// A box in its owner's colour, over the sheet's path: its border, and a tint inside.
 fn put_box(b: BoxRecord) {
     put(b"<rect");
     put_attribute(b"x", b.x);
@@ -110,7 +119,7 @@ fn put_box(b: BoxRecord) {
     put_attribute(b"width", b.width);
     put_attribute(b"height", b.height);
     put(b" fill=\"");
-    put_colour(b.owner);
+    put_tint(b.owner);
     put(b"\" stroke=\"");
     put_colour(b.owner);
     put(b"\"");
@@ -121,7 +130,7 @@ fn put_box(b: BoxRecord) {
 fn put_boxes(s: SheetRecord)
     requires { ⌜ soundOf s ≡ true ⌝ }
 {
-    put(b"<g fill-opacity=\"0.15\" stroke-width=\"80\">\n");
+    put(b"<g fill-opacity=\"0.15\" stroke-width=\"64\">\n");
     let boxes = s.boxes;
     for k in 0..s.count as usize {
         put_box(boxes[k]);
@@ -216,8 +225,8 @@ fn draw_sheet(chart: &[u8], s: SheetRecord)
     requires { ⌜ soundOf s ≡ true ⌝ }
 {
     put_head(s.width, s.height);
-    put_boxes(s);
     put_path(s);
+    put_boxes(s);
     put(b"<g font-family=\"monospace\">\n");
     draw_labels(chart, s.count);
     put(b"</g>\n</svg>\n");
