@@ -12,13 +12,12 @@ use Rattle.laws.specs.Lists.{one}
 use Rattle.chart.specs.declared.Line.{Line as LineItem}
 use Rattle.chart.specs.declared.Setting.{Setting}
 use Rattle.chart.specs.Chart.{Part, Board}
-use Rattle.chart.specs.Chart.{Node as GivenNode}
 use Rattle.chart.specs.code.Filled.{ownedLines}
 use Rattle.graph.specs.Graph.{Line, given, number, invalid, Node, Graph, givenGraph, nodeAt}
 use Rattle.graph.specs.Joining.{leadsOf}
 use Rattle.graph.specs.Graphed.{Dag}
 use Rattle.graph.specs.Laws.{Named, Laws}
-use Rattle.graph.specs.code.Tables.{heldLine, numberLine, linesAt}
+use Rattle.graph.specs.code.Tables.{numberLine, linesAt}
 use Rattle.grid.specs.RenderGrid.{ownerIn}
 use Rattle.grid.specs.code.Laid.{ownerBy}
 

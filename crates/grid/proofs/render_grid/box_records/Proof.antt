@@ -1,7 +1,7 @@
 -- `render_grid::box_records`: each turn stores the next box.
 -- Assumes nothing.
 use Prim.Native.Nat.{ℕ, _-_, _≤_}
-use mathlib.Core.Path.{_≡_, refl, ap, _∙_}
+use mathlib.Core.Path.{_≡_, ap, _∙_}
 use native.Mathlib.Omega.{arith}
 use lib.ListN.{getD}
 use Rattle.grid.proofs.Arrays.{filled-next}
