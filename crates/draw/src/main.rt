@@ -82,8 +82,8 @@ fn put_colour(owner: u8) {
         2 => put(b"#009e73"),
         3 => put(b"#000000"),
         4 => put(b"#e69f00"),
-        5 => put(b"#56b4e9"),
-        6 => put(b"#f0e442"),
+        5 => put(b"#f0e442"),
+        6 => put(b"#56b4e9"),
         _ => put(b"#cc79a7"),
     }
 }
