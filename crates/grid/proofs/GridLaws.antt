@@ -15,7 +15,8 @@ use Rattle.grid.specs.Columns.{at}
 use Rattle.grid.specs.code.Placed.{Placed}
 use Rattle.grid.specs.RenderNode.{drawn, boxWidth, boxHeight}
 use Rattle.grid.specs.RenderGrid.{extent, begins, reach, Box, Sheet, boxAt, boxOf, widths, tallnesses, sheetOf}
-use Rattle.grid.proofs.SheetTheorem.{noBox, box, Names, Across, Down, SheetTheorem}
+use Rattle.grid.specs.Curves.{noOutputs}
+use Rattle.grid.proofs.SheetTheorem.{box, Names, Across, Down, SheetTheorem}
 use Rattle.grid.proofs.ListLaws.{at-largest, at-map}
 use Rattle.laws.proofs.Lists.{length-tabulate, getD-tabulate}
 
@@ -69,7 +70,7 @@ module _ (n leads cuts b : ℕ) (g : Graph) (cols rows : List ℕ) (tall : lengt
 
   is : (k : ℕ) → k < length g → box s k ≡ boxOf g cols rows k
   unfolding sheetOf
-  is k h = getD-tabulate (boxOf g cols rows) 0 (length g) k noBox h ∙ ap (boxOf g cols rows) (zero-add k)
+  is k h = getD-tabulate (boxOf g cols rows) 0 (length g) k noOutputs h ∙ ap (boxOf g cols rows) (zero-add k)
 
   width-is : (k : ℕ) → k < length g → drawn (nodeAt g k) .width ≡ at (widths g) k
   unfolding drawn

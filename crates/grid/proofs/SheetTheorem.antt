@@ -9,13 +9,11 @@ use Rattle.graph.specs.Graph.{Line, Node, Graph, nodeAt}
 use Rattle.grid.specs.Lists.{largest, total}
 use Rattle.grid.specs.RenderNode.{textLength, lineLength}
 use Rattle.grid.specs.RenderGrid.{Box, Sheet, boxAt}
-
-abbrev pub noBox : Box
-noBox = record { column = 0; row = 0; x = 0; y = 0; width = 0; height = 0; owner = 0; texts = []; inputs = []; outputs = [] }
+use Rattle.grid.specs.Curves.{noOutputs}
 
 -- box k of the sheet
 abbrev pub box : Sheet → ℕ → Box
-box s k = getD (s .boxes) k noBox
+box s k = getD (s .boxes) k noOutputs
 
 -- box k names column c and row r
 abbrev pub Names : Sheet → ℕ → ℕ → ℕ → Type 0

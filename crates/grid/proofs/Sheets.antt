@@ -47,9 +47,9 @@ use Rattle.grid.specs.RenderNode.{drawn, boxWidth, boxHeight}
 use Rattle.grid.specs.declared.Outcome.{Outcome}
 use Rattle.grid.specs.RenderGrid.{Box, Sheet, ownerIn, sheetOf, sheet}
 use Rattle.grid.specs.Record.{noBox, noSheet}
-use Rattle.grid.specs.Curves.{boxRecord, recordOf}
+use Rattle.grid.specs.Curves.{noOutputs, boxRecord, recordOf}
 use Rattle.grid.specs.Cells.{cellAt, cellsIn, Named, Apart}
-use Rattle.grid.proofs.SheetTheorem.{SheetTheorem, noBox as noBoxed, box as boxIn}
+use Rattle.grid.proofs.SheetTheorem.{SheetTheorem, box as boxIn}
 use Rattle.grid.specs.Sheeted.{ready, refusal, within, fitted, sheetOfDag, sheeted, outcomeOf}
 use Rattle.grid.specs.code.Laid.{fittedOf, arrangedOf}
 use Rattle.grid.specs.BoxTheorem.{box, cell, Names, Across, Down, BoxTheorem}
@@ -73,7 +73,7 @@ module _ (n leads cuts : ℕ) (g : Graph) (sh : Sheet) (t : SheetTheorem n leads
   -- a box of the record is that of the sheet
   box-is : (k : ℕ) → k < r .count → box r k ≡ boxRecord (boxIn sh k)
   unfolding recordOf
-  box-is k h = getD-padded 48 noBox (map boxRecord (sh .boxes)) k noBox (omega arith) ∙ List·getD-map boxRecord (sh .boxes) k noBoxed
+  box-is k h = getD-padded 48 noBox (map boxRecord (sh .boxes)) k noBox (omega arith) ∙ List·getD-map boxRecord (sh .boxes) k noOutputs
 
   in-sheet : (k : ℕ) → k < r .count → k < length (sh .boxes)
   in-sheet k h = omega (arith, count-is)
