@@ -1,4 +1,6 @@
 // Reads charts in hexadecimal, one on each line, and prints what each is read as: its board, or the refusal. An empty line ends each.
+#![tactic(auto)]
+
 use chart::{Answer, Board, Item, Line, Lines, Setting, Table};
 use libc::STDOUT_FILENO;
 

@@ -1,5 +1,7 @@
 // Document 01, module 1: a chart's bytes, read into tables. A source or a sink, and a line, is a record with the node that owns it;
 // a node's list is its records in table order.
+#![tactic(auto)]
+
 ghost use Rattle.std.specs.Prelude.{◌≡◌};
 ghost use Rattle.chart.specs.Chart.{refusal, under_two};
 ghost use Rattle.chart.specs.Read.{IsRead};
@@ -18,14 +20,14 @@ pub const BYTE_C2: u8 = 0xc2;
 pub const BYTE_B0: u8 = 0xb0;
 
 // What becomes of a target that isn't a node: by default it is drawn, strict refuses it (12).
-#[derive(Drop)]
+#[derive(Clone, Copy)]
 pub enum Setting {
     Default,
     Strict,
 }
 
 // A source or a sink: its node, its target, its text's place in the chart, and how many characters that has.
-#[derive(Drop)]
+#[derive(Clone, Copy)]
 pub struct Item {
     pub owner: u8,
     pub to: u8,
@@ -34,14 +36,14 @@ pub struct Item {
 }
 
 // The first count items. (While a chart is being read, 65 is 'more than 64'.)
-#[derive(Drop)]
+#[derive(Clone, Copy)]
 pub struct Table {
     pub items: [Item; 64],
     pub count: usize,
 }
 
 // A line: its text's place in the chart, its node, and how many characters it has. (In this order it takes 4 bytes.)
-#[derive(Drop)]
+#[derive(Clone, Copy)]
 pub struct Line {
     pub at: u16,
     pub owner: u8,
@@ -49,14 +51,14 @@ pub struct Line {
 }
 
 // The first count lines.
-#[derive(Drop)]
+#[derive(Clone, Copy)]
 pub struct Lines {
     pub items: [Line; 128],
     pub count: usize,
 }
 
 // n nodes, with the sources, the lines and the sinks of all.
-#[derive(Drop)]
+#[derive(Clone, Copy)]
 pub struct Board {
     pub n: u8,
     pub sources: Table,
@@ -65,14 +67,14 @@ pub struct Board {
 }
 
 // Ready, or document 01's two numbers of the refusal.
-#[derive(Drop)]
+#[derive(Clone, Copy)]
 pub enum Answer {
     Ready,
     Refused(u8, u32),
 }
 
 // A refused chart's board is the empty one.
-#[derive(Drop)]
+#[derive(Clone, Copy)]
 pub struct Outcome {
     pub answer: Answer,
     pub board: Board,

@@ -1,5 +1,7 @@
 // A picture of a chart: a chart on standard input, its first 8,192 bytes, at origin 0 0; its sheet and labels, an SVG 1.1 document, on standard output.
 // Refused: the refusal on standard error, and nothing on standard output; so too an input of which no byte can be read.
+#![tactic(auto)]
+
 ghost use Rattle.std.specs.Prelude.{◌≡◌, true, ◌≤◌, length};
 ghost use Rattle.io.specs.Counts.{IsPrefixLen};
 ghost use Rattle.grid.specs.Labels.{label_of};

@@ -2,6 +2,8 @@
 // labels, the ends of its curves, and an empty line. The owners are one line, `owners` and a number for each box; a label is
 // `text BOX LABEL X Y SIZE WIDTH TEXT`, a curve `curve NUMBER X0 Y0 X1 Y1`: the lines of `oracle --full`.
 // A line that begins with `D` is a chart in the default setting; any other is strict.
+#![tactic(auto)]
+
 ghost use Rattle.std.specs.Prelude.{◌≡◌, true, ◌≤◌, length};
 ghost use Rattle.io.specs.Counts.{IsPrefixLen};
 ghost use Rattle.grid.specs.Record.{sound_of};

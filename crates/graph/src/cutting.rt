@@ -10,14 +10,14 @@ use crate::records::{no_nodes, push};
 use crate::{Item, Table, Tables};
 
 // A node on the path, and the number of its sink to look at next.
-#[derive(Drop)]
+#[derive(Clone, Copy)]
 pub struct Look {
     pub node: u8,
     pub sink: u8,
 }
 
 // The place of a record, if there is one.
-#[derive(Drop)]
+#[derive(Clone, Copy)]
 pub enum Found {
     At(usize),
     Nothing,
@@ -136,7 +136,7 @@ fn cut_sinks(t: Table, k: usize, q: u8, a: u8) -> Table
 }
 
 // The tables once cut, unless a cut would make more than 48 nodes.
-#[derive(Drop)]
+#[derive(Clone, Copy)]
 pub struct Went {
     pub ok: bool,
     pub tables: Tables,

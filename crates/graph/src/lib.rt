@@ -1,5 +1,7 @@
 // Document 01, modules 2 and 3, and document 02, L5: the graph of a chart, completed, joined, and cut or not, as tables of records, each record with the node that owns it.
 // A node's list is its records in table order.
+#![tactic(auto)]
+
 ghost use Rattle.std.specs.Prelude.{◌≡◌};
 ghost use Rattle.chart.specs.Chart.{chart as chartOf};
 ghost use Rattle.chart.specs.code.Filled.{board_of};
@@ -20,7 +22,7 @@ mod records;
 
 // A source or a sink: its text's place in the chart, its node, the node at the other end, its mark plus 1 (0 for none), and how
 // many characters its text has. (In this order it takes 6 bytes.)
-#[derive(Drop)]
+#[derive(Clone, Copy)]
 pub struct Item {
     pub at: u16,
     pub owner: u8,
@@ -30,7 +32,7 @@ pub struct Item {
 }
 
 // The first count items.
-#[derive(Drop)]
+#[derive(Clone, Copy)]
 pub struct Table {
     pub items: [Item; 88],
     pub count: usize,
@@ -39,7 +41,7 @@ pub struct Table {
 // n nodes and the cuts that made the inserted ones; for each node how its line is held: the number of the given node that it shows,
 // 256 and the target for a box of a lead to nothing, 512 for none;
 // and the given lines, the sources and the sinks of all.
-#[derive(Drop)]
+#[derive(Clone, Copy)]
 pub struct Tables {
     pub n: usize,
     pub cuts: u8,
@@ -50,7 +52,7 @@ pub struct Tables {
 }
 
 // A refused chart's tables are the empty ones.
-#[derive(Drop)]
+#[derive(Clone, Copy)]
 pub struct Outcome {
     pub answer: Answer,
     pub graph: Tables,
@@ -120,7 +122,7 @@ pub fn completed(chart: &[u8]) -> Outcome
 
 // The ends of all nodes, sources or sinks, for the stages that read only where they lead: record k is node owner[k]'s and leads to
 // node to[k], for k below count.
-#[derive(Drop)]
+#[derive(Clone, Copy)]
 pub struct Ends {
     pub owner: [u8; 88],
     pub to: [u8; 88],

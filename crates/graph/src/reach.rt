@@ -8,14 +8,14 @@ use crate::cutting::{Found, find_sink};
 use crate::{Table, Tables};
 
 // A node on the path, and the place in the table of sinks where it looks next.
-#[derive(Drop)]
+#[derive(Clone, Copy)]
 pub struct Frame {
     pub node: u8,
     pub at: u8,
 }
 
 // The walk's state: how each node stands (0 unseen, 1 marked), and the path, the first depth frames.
-#[derive(Drop)]
+#[derive(Clone, Copy)]
 pub struct Path {
     pub seen: [u8; 48],
     pub frames: [Frame; 48],

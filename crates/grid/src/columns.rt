@@ -136,7 +136,7 @@ fn folds(rows: &[u8; 48], cols: &mut [u8; 48], n: u32)
 }
 
 // The first place after the left neighbour of a box, or 0, and the column of its right neighbour, or 255.
-#[derive(Drop)]
+#[derive(Clone, Copy)]
 pub struct Neighbours {
     pub low: u8,
     pub next: u8,

@@ -6,7 +6,7 @@ ghost use Rattle.grid.specs.code.Leads.{shape_in, Led};
 ghost use Rattle.grid.specs.code.Walk.{signed_by, row_in, rows_of, reached_in, raised, lesser_of, lower_by, renumbered_of, Above, AllNear, IsLeast};
 
 // A node on the path, its row, and the place where it looks next among those that it leads to: sources first, then sinks.
-#[derive(Drop)]
+#[derive(Clone, Copy)]
 pub struct Frame {
     pub node: u8,
     pub row: i8,
@@ -14,7 +14,7 @@ pub struct Frame {
 }
 
 // What a walk reaches: which nodes have a row, and which row.
-#[derive(Drop)]
+#[derive(Clone, Copy)]
 pub struct Reached {
     pub seen: [bool; 48],
     pub rows: [i8; 48],

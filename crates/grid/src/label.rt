@@ -15,7 +15,7 @@ use chart::Lines;
 use graph::{Table, Tables};
 
 // A label that was looked for in some texts: its place, or how many more are to be passed.
-#[derive(Drop)]
+#[derive(Clone, Copy)]
 pub struct Seek {
     pub place: LabelPlace,
     pub left: usize,

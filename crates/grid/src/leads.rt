@@ -7,7 +7,7 @@ ghost use Rattle.grid.specs.code.Leads.{shape_in, Led};
 use graph::Ends;
 
 // The sources of node p stand from bounds[2 p] up to bounds[2 p + 1], its sinks from there up to bounds[2 p + 2].
-#[derive(Drop)]
+#[derive(Clone, Copy)]
 pub struct Leads {
     pub to: [u8; 176],
     pub bounds: [u8; 97],

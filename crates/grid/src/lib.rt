@@ -1,4 +1,6 @@
 // Modules 6, 7 and 8 of document 01: heights, columns, boxes, and the sheet of a chart.
+#![tactic(auto)]
+
 ghost use Rattle.std.specs.Prelude.{◌≡◌, ◌&&◌, ◌<◌, get_or, take};
 ghost use Rattle.graph.specs.code.Tables.{graph_of};
 ghost use Rattle.graph.specs.Ends.{ends_in};
@@ -33,7 +35,7 @@ pub const NO_OWNER: u8 = 255;
 // A box: its top left corner, its width and its height, the column and row of its cell, and its owner: the node itself, the node whose number a
 // cut's box shows, or NO_OWNER.
 #[repr(C)]
-#[derive(Drop)]
+#[derive(Clone, Copy)]
 pub struct BoxRecord {
     pub x: u32,
     pub y: u32,
@@ -46,7 +48,7 @@ pub struct BoxRecord {
 
 // A curve: the output point x0 y0 where it begins, and the input point x1 y1 where it ends.
 #[repr(C)]
-#[derive(Drop)]
+#[derive(Clone, Copy)]
 pub struct Curve {
     pub x0: u32,
     pub y0: u32,
@@ -56,7 +58,7 @@ pub struct Curve {
 
 // A sheet: its size, its origin, how many columns, rows and cuts it has; the first count boxes, and the first drawn curves. It holds no texts.
 #[repr(C)]
-#[derive(Drop)]
+#[derive(Clone, Copy)]
 pub struct SheetRecord {
     pub width: u32,
     pub height: u32,
@@ -72,21 +74,21 @@ pub struct SheetRecord {
 }
 
 // A refused chart's sheet has every field 0.
-#[derive(Drop)]
+#[derive(Clone, Copy)]
 pub struct Outcome {
     pub answer: Answer,
     pub sheet: SheetRecord,
 }
 
 // A box of a sheet; refused, its record is the empty one.
-#[derive(Drop)]
+#[derive(Clone, Copy)]
 pub struct BoxAnswer {
     pub answer: Answer,
     pub place: BoxRecord,
 }
 
 // The place of a label, its size and its width; its text is the `len` characters of the chart at `at`, or where `fixed`, the fixed text of the number.
-#[derive(Drop)]
+#[derive(Clone, Copy)]
 pub struct LabelPlace {
     pub found: bool,
     pub x: u32,
@@ -100,7 +102,7 @@ pub struct LabelPlace {
 }
 
 // The place of a label; refused, every field of it is 0.
-#[derive(Drop)]
+#[derive(Clone, Copy)]
 pub struct LabelOutcome {
     pub answer: Answer,
     pub place: LabelPlace,

@@ -15,14 +15,14 @@ use crate::{BoxRecord, Curve, NO_OWNER, SheetRecord};
 use graph::{Table, Tables};
 
 // The first drawn curves.
-#[derive(Drop)]
+#[derive(Clone, Copy)]
 pub struct Curves {
     pub curves: [Curve; 88],
     pub drawn: u8,
 }
 
 // The x of an output point, if there is one.
-#[derive(Drop)]
+#[derive(Clone, Copy)]
 pub enum Found {
     At(u32),
     Nothing,

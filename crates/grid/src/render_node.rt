@@ -10,21 +10,21 @@ use chart::Lines;
 use graph::{Table, Tables};
 
 // The ends that a node has on one side: the characters of their texts together, and how many they are.
-#[derive(Drop)]
+#[derive(Clone, Copy)]
 pub struct Ends {
     pub len: u16,
     pub count: u8,
 }
 
 // The lines of a node: the characters of the longest, and how many they are.
-#[derive(Drop)]
+#[derive(Clone, Copy)]
 pub struct Center {
     pub longest: u8,
     pub count: u8,
 }
 
 // The ends of one side as they are laid: where the first text begins, the space after each, and the height of their points.
-#[derive(Drop)]
+#[derive(Clone, Copy)]
 pub struct Run {
     pub x: u32,
     pub y: u32,
@@ -32,7 +32,7 @@ pub struct Run {
 }
 
 // A box: its size, its inputs and outputs, where its lines begin and the height above the first of them.
-#[derive(Drop)]
+#[derive(Clone, Copy)]
 pub struct RenderNode {
     pub width: u32,
     pub height: u32,

@@ -1,4 +1,6 @@
 // Charts written in hexadecimal, one on each line, in the default setting after a `D`: what the programs that run a list of charts read.
+#![tactic(auto)]
+
 ghost use Rattle.std.specs.Prelude.{min, ◌/◌, ◌≤◌, ◌≡◌, length};
 ghost use Rattle.lines.specs.Lines.{digit_of, line_end, line_of, is_default, digits_of, decoded};
 

@@ -1,5 +1,7 @@
 // The listing of document 01: a chart on standard input, its first 8,192 bytes, at origin 0 0, in the strict setting; the sheet, its boxes and its path, or the refusal, on standard output.
 // An input of which no byte can be read: that, on standard error, and nothing on standard output.
+#![tactic(auto)]
+
 ghost use Rattle.std.specs.Prelude.{◌≡◌, true, ◌≤◌, length};
 ghost use Rattle.io.specs.Counts.{IsPrefixLen};
 ghost use Rattle.grid.specs.Record.{sound_of};

@@ -1,5 +1,7 @@
 // The operations of documents 01 and 02 for firmware in C: numbers, byte slices and structs with C's layout. include/margalhosa.h is the header.
 // In each result `refused` is the documents' number of the refusal, 0 where nothing is refused, and `second` its second number.
+#![tactic(auto)]
+
 ghost use Rattle.std.specs.Prelude.{◌≡◌};
 ghost use Rattle.chart.specs.Read.{numbers_of};
 ghost use Rattle.grid.specs.Record.{box_answer_of};
@@ -16,7 +18,7 @@ use path::{Counted, Given, Pen, Segment, Written};
 
 // A sheet; refused, every field of it is 0.
 #[repr(C)]
-#[derive(Drop)]
+#[derive(Clone, Copy)]
 pub struct SheetResult {
     pub refused: u32,
     pub second: u32,
@@ -25,7 +27,7 @@ pub struct SheetResult {
 
 // A box of a sheet; refused, every field of it is 0.
 #[repr(C)]
-#[derive(Drop)]
+#[derive(Clone, Copy)]
 pub struct BoxResult {
     pub refused: u32,
     pub second: u32,
@@ -34,7 +36,7 @@ pub struct BoxResult {
 
 // A segment: its kind is 0 a move, 1 a line, 2 a cubic, 3 a close. A move or a line goes to `to`, a cubic goes there by its two controls; the other positions are 0.
 #[repr(C)]
-#[derive(Drop)]
+#[derive(Clone, Copy)]
 pub struct SegmentResult {
     pub refused: u32,
     pub kind: u32,
@@ -46,7 +48,7 @@ pub struct SegmentResult {
 
 // How many bytes were written, or how many segments a text has; refused, 0.
 #[repr(C)]
-#[derive(Drop)]
+#[derive(Clone, Copy)]
 pub struct CountResult {
     pub refused: u32,
     pub second: usize,
@@ -55,7 +57,7 @@ pub struct CountResult {
 
 // A label's place, size and width; refused, all of them 0.
 #[repr(C)]
-#[derive(Drop)]
+#[derive(Clone, Copy)]
 pub struct LabelResult {
     pub refused: u32,
     pub second: u32,
@@ -67,7 +69,7 @@ pub struct LabelResult {
 
 // A label's text: the part of the chart, or where `fixed` is 1 of the table, that begins at `at` and has `len` bytes; refused, the empty one at the chart's start.
 #[repr(C)]
-#[derive(Drop)]
+#[derive(Clone, Copy)]
 pub struct PartResult {
     pub refused: u32,
     pub second: u32,
@@ -78,7 +80,7 @@ pub struct PartResult {
 
 // The signal order: the first `count` nodes are all of them in order, or those of a cycle (refused by 20); refused by another number there are none. Past them, 0.
 #[repr(C)]
-#[derive(Drop)]
+#[derive(Clone, Copy)]
 pub struct OrderResult {
     pub refused: u32,
     pub second: u32,

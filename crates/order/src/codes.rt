@@ -10,7 +10,7 @@ ghost use Rattle.order.specs.code.Codes.{neighbour_codes, pair_codes, list_codes
 use graph::Ends;
 
 // Where the sources of one node lead, or its sinks, in order.
-#[derive(Drop)]
+#[derive(Clone, Copy)]
 pub struct Targets {
     pub to: [u8; 88],
     pub count: usize,

@@ -1,4 +1,6 @@
 // The order of the nodes: module 4 of document 01, pair weights, and module 5, chains.
+#![tactic(auto)]
+
 ghost use Rattle.std.specs.Prelude.{◌≡◌, false, replicate};
 ghost use Rattle.graph.specs.code.Tables.{Linked, graph_of};
 ghost use Rattle.graph.specs.Shape.{shape_of};
@@ -17,11 +19,11 @@ mod sums;
 mod weights;
 
 // A node, by its number.
-#[derive(Drop)]
+#[derive(Clone, Copy)]
 pub struct NodeNumber(pub u8);
 
 // The first count columns, that of node p at p. A refused chart has none.
-#[derive(Drop)]
+#[derive(Clone, Copy)]
 pub struct Outcome {
     pub answer: Answer,
     pub count: u8,
@@ -92,7 +94,7 @@ fn linked(e: Ends, n: usize) -> bool
 }
 
 // Whether the ends are linked, and each node's first column: 0 past the last node, and all of them 0 where the ends are not linked.
-#[derive(Drop)]
+#[derive(Clone, Copy)]
 pub struct ColumnsAnswer {
     pub linked: bool,
     pub columns: [u8; 48],

@@ -8,7 +8,7 @@ use crate::halves::halfway;
 use crate::{Pen, Segment};
 
 // What is written and read.
-#[derive(Drop)]
+#[derive(Clone, Copy)]
 pub enum Drawn {
     Move(u32, u32),
     Line(u32, u32),

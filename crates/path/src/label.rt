@@ -11,7 +11,7 @@ use chart::BYTE_C2;
 use grid::LabelPlace;
 
 // From `at` up to `end`.
-#[derive(Drop)]
+#[derive(Clone, Copy)]
 pub struct Span {
     pub at: usize,
     pub end: usize,

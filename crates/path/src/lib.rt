@@ -1,5 +1,7 @@
 // Document 01, module 9: the segments of a sheet, its whole text, a path text read and written again, and labels.
 // A sheet and a path text each give segments or a refusal (`sheetAnswer`, `read`); the promises say what of these is handed out or written, and that `read` judges a text in document 01's words.
+#![tactic(auto)]
+
 ghost use Rattle.std.specs.Prelude.{◌≡◌};
 ghost use Rattle.path.specs.Reader.{read};
 ghost use Rattle.path.specs.Answers.{sheetAnswer};
@@ -30,14 +32,14 @@ mod writer;
 
 // A pen position.
 #[repr(C)]
-#[derive(Drop)]
+#[derive(Clone, Copy)]
 pub struct Pen {
     pub x: f32,
     pub y: f32,
 }
 
 // A segment: a move, a line, a cubic (two controls and the end) or a close.
-#[derive(Drop)]
+#[derive(Clone, Copy)]
 pub enum Segment {
     Move(Pen),
     Line(Pen),
@@ -46,28 +48,28 @@ pub enum Segment {
 }
 
 // A segment, or document 01's two numbers of the refusal.
-#[derive(Drop)]
+#[derive(Clone, Copy)]
 pub enum Given {
     Drawn(Segment),
     Refused(u8, usize),
 }
 
 // How many segments, or document 01's two numbers of the refusal.
-#[derive(Drop)]
+#[derive(Clone, Copy)]
 pub enum Counted {
     Segments(usize),
     Refused(u8, usize),
 }
 
 // How many bytes were written, or document 01's two numbers of the refusal.
-#[derive(Drop)]
+#[derive(Clone, Copy)]
 pub enum Written {
     Done(usize),
     Refused(u8, usize),
 }
 
 // A label's place, size and width; refused, all of them 0.
-#[derive(Drop)]
+#[derive(Clone, Copy)]
 pub struct LabelAnswer {
     pub answer: Answer,
     pub x: u32,
@@ -77,7 +79,7 @@ pub struct LabelAnswer {
 }
 
 // A label's text as a place: where it begins and how many bytes it has, in the table where `fixed` and else in the chart; refused, the empty one at the chart's start.
-#[derive(Drop)]
+#[derive(Clone, Copy)]
 pub struct LabelSpan {
     pub answer: Answer,
     pub fixed: bool,

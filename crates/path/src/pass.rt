@@ -7,7 +7,7 @@ use crate::drawn::Drawn;
 use crate::reader::{Act, Phase, Stand, act_of, move_on};
 
 // The last six numbers, in halves, the latest first.
-#[derive(Drop)]
+#[derive(Clone, Copy)]
 pub struct Six {
     pub a: u32,
     pub b: u32,
@@ -18,13 +18,13 @@ pub struct Six {
 }
 
 // The letter and the numbers of one segment.
-#[derive(Drop)]
+#[derive(Clone, Copy)]
 pub struct Kept {
     pub letter: u8,
     pub numbers: Six,
 }
 
-#[derive(Drop)]
+#[derive(Clone, Copy)]
 pub struct Pass {
     pub stand: Stand,
     pub count: usize,

@@ -3,7 +3,7 @@ ghost use Rattle.std.specs.Prelude.{◌≡◌, cond, ◌-◌, eqb, length};
 ghost use Rattle.path.specs.Reader.{is_letter, is_digit, arity, on_letter, on_space, on_first, after_digit, on_number, act_of, is_begin, grown, marked, standing, moved, ended, is_stopped, verdict_of};
 
 // Where the reader stands.
-#[derive(Drop)]
+#[derive(Clone, Copy)]
 pub enum Phase {
     // nothing is read
     Begin,
@@ -24,7 +24,7 @@ pub enum Phase {
 }
 
 // What a byte is to the reader.
-#[derive(Drop)]
+#[derive(Clone, Copy)]
 pub enum Act {
     Letter(u8),
     Space,
@@ -39,7 +39,7 @@ pub enum Act {
 // How the reader stands: the phase, how many numbers are still to begin in this segment, the whole part of the last number
 // (as it was when it passed the limit, if it did), where that number began, whether a number was too large and where the first such began,
 // whether the first letter is not M, and the place of the byte refused.
-#[derive(Drop)]
+#[derive(Clone, Copy)]
 pub struct Stand {
     pub phase: Phase,
     pub left: u8,
@@ -52,7 +52,7 @@ pub struct Stand {
 }
 
 // What is said of a text as a whole.
-#[derive(Drop)]
+#[derive(Clone, Copy)]
 pub enum Verdict {
     Fine,
     Refused(u8, usize),

@@ -9,7 +9,7 @@ use crate::halves::{halfway, whole};
 use crate::{Pen, Segment};
 
 // A curve is given by its two ends.
-#[derive(Drop)]
+#[derive(Clone, Copy)]
 pub enum Stroke {
     Move(u32, u32),
     Line(u32, u32),

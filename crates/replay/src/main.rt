@@ -1,5 +1,7 @@
 // Charts in hexadecimal, one on each line of standard input: the listing of each, as the program `listing` prints it, and an empty line. A line
 // that begins with `D` is a chart in the default setting; any other is strict.
+#![tactic(auto)]
+
 ghost use Rattle.std.specs.Prelude.{◌≡◌, true, ◌≤◌, length};
 ghost use Rattle.io.specs.Counts.{IsPrefixLen};
 ghost use Rattle.grid.specs.Record.{sound_of};

@@ -1,4 +1,6 @@
 // Document 02, L2: the signal order of a chart's nodes, or a cycle. The chart is read in the strict setting (L5).
+#![tactic(auto)]
+
 ghost use Rattle.std.specs.Prelude.{◌≡◌, ◌≤◌, take};
 ghost use Rattle.laws.specs.Lists.{has, stack_of};
 ghost use Rattle.walks.specs.Walks.{up_to};
@@ -13,7 +15,7 @@ use chart::Answer;
 use graph::Tables;
 
 // The first count nodes: all of them in order, or those of a cycle (refused by 20). Entries past them are 0.
-#[derive(Drop)]
+#[derive(Clone, Copy)]
 pub struct SignalOrder {
     pub answer: Answer,
     pub count: u8,
@@ -21,7 +23,7 @@ pub struct SignalOrder {
 }
 
 // The first count nodes, and 0 past them.
-#[derive(Drop)]
+#[derive(Clone, Copy)]
 struct Nodes {
     count: usize,
     nodes: [u8; 32],

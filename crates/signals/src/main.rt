@@ -1,5 +1,7 @@
 // Reads charts in hexadecimal, one on each line, and prints the signal order of each: `order` and the nodes; or `refused 20 0 cycle` and the nodes of
 // a cycle; or another refusal.
+#![tactic(auto)]
+
 use chart::Answer;
 use libc::STDOUT_FILENO;
 use signal::SignalOrder;

@@ -1,5 +1,7 @@
 // Reads charts in hexadecimal, one on each line, and prints for each what the stages below the sheet make of it: the completed graph, the
 // cut graph and the first columns, or the refusal of each. The form of a line is that of the instrumented Rust (differential/README.md, `--stages`).
+#![tactic(auto)]
+
 use chart::{Answer, Setting};
 use graph::{Item, Table, Tables};
 use libc::STDOUT_FILENO;

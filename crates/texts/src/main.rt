@@ -1,4 +1,6 @@
 // Path texts, one on each line of standard input: how many segments each has, or the refusal.
+#![tactic(auto)]
+
 use libc::STDOUT_FILENO;
 use path::Counted;
 

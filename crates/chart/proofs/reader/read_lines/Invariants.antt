@@ -1,0 +1,15 @@
+-- `reader::read_lines`: what is left to read, put into the table so far, gives the whole answer.
+-- Assumes nothing.
+use Prim.Native.Nat.{ℕ}
+use mathlib.Core.Path.{◌≡◌, refl, sym, ◌∙◌, ap}
+use native.Mathlib.Omega.{arith}
+use Rattle.chart.specs.code.Steps.{reads-texts}
+use Rattle.chart.proofs.Readers.{lines-refused, lines-on}
+use borrow.Author.Tests.{lt-ltb, le-ltb}
+use Rattle.chart.proofs.reader.read_lines.Given as goal
+
+abbrev pub invariant-loop-left : goal.invariant-loop-left
+invariant-loop-left l = reads-texts l.t l.owner l.chart l.end l.left ≡ reads-texts l.initial.t l.owner l.chart l.at l.count
+
+abbrev pub decreases-loop-left : goal.decreases-loop-left
+decreases-loop-left l = l.left
