@@ -78,7 +78,7 @@ module _ (g : ℕ) (t : Tables) (sn : List ℕ) (fs : List Look) (d : ℕ) where
       y = get_or t.sinks.items k no_item
 
       sinks-fit : t.sinks.count ≤ 88
-      sinks-fit = omega (arith, rd.sound.sink-room, small)
+      sinks-fit = omega (arith, rd.sound.sink_room, small)
 
       size : length (items_of t.sinks) ≡ t.sinks.count
       size = table-size t.sinks long sinks-fit
@@ -93,7 +93,7 @@ module _ (g : ℕ) (t : Tables) (sn : List ℕ) (fs : List Look) (d : ℕ) where
       sink_in = omega (arith, sinks-fit, size, owned_le c (items_of t.sinks), sunk-less (items_of t.sinks) c f.sink k k-is)
 
       to_in : y.to < t.n
-      to_in = rw here at (aimed-at t.n (items_of t.sinks) k rd.sound.linked.sink-aims k-is.inside)
+      to_in = rw here at (aimed-at t.n (items_of t.sinks) k rd.sound.linked.sink_aims k-is.inside)
 
       more : f.sink < degree (graph_of t) c
       more = rw sinks-are (sunk-less (items_of t.sinks) c f.sink k k-is)

@@ -16,7 +16,7 @@ use Rattle.graph.specs.Completion.{gain_source, marked, gain_sink, complete}
 use Rattle.graph.specs.Cutting.{turned, pointed, first_node, second_node, cut_graph, reached, cutting}
 use Rattle.graph.specs.Laws.{Leads, Aimed, SinkAt}
 use Rattle.graph.proofs.Resumes.{length_cut}
-use Rattle.graph.proofs.Keeps.{cutting-keeps}
+use Rattle.graph.proofs.Keeps.{cutting_keeps}
 use Rattle.graph.proofs.Completes.{SourceAt, complete-holds}
 
 -- ---- each of a list
@@ -92,11 +92,11 @@ cut-aims g c s e hc hq a =
 
 pub cutting-aims : (g : Graph) → Aimed (length g) g → Aimed (length (cutting g).graph) (cutting g).graph
 cutting-aims g a =
-    (cutting-keeps (length g) (reached g) (λ w. Aimed (length w.graph) w.graph) (λ w c x h. h)
+    (cutting_keeps (length g) (reached g) (λ w. Aimed (length w.graph) w.graph) (λ w c x h. h)
     (λ w c s hc hs hq lo bz fr h. cut-aims w.graph c s (get_or (node_at w.graph c).sinks s no_edge) (omega arith) (omega arith) h) g refl refl a).keeps
 
 -- ---- two nodes a cut
 pub cutting-count : (g : Graph) → length (cutting g).graph ≡ length g + 2 * (cutting g).cuts
 cutting-count g =
-    (cutting-keeps (length g) (reached g) (λ w. length w.graph ≡ length g + 2 * w.cuts) (λ w c x h. h)
+    (cutting_keeps (length g) (reached g) (λ w. length w.graph ≡ length g + 2 * w.cuts) (λ w c x h. h)
     (λ w c s hc hs hq lo bz fr h. omega (arith, h, length_cut w.graph c s (get_or (node_at w.graph c).sinks s no_edge))) g refl refl (omega arith)).keeps

@@ -95,8 +95,8 @@ module _ (b : BoardTables) (sound : SoundBoard b) (x y : Table)
               nodes = sound.nodes;
               room = omega (arith, hx.1, hy.1, sound.ends);
               source_owners = rw hx.0 (owners (ends_of b.sources) sound.sources);
-              sink-owners = rw hy.0 (owners (ends_of b.sinks) sound.sinks);
-              line-owners = sound.owners;
+              sink_owners = rw hy.0 (owners (ends_of b.sinks) sound.sinks);
+              line_owners = sound.owners;
               bare = rw hx.0 (all_made (OwnedEnd b.n) (λ (z : Item). z.mark ≡ 0) unmarked_item (λ z h. refl) (ends_of b.sources) sound.sources);
               names = refl;
             };
@@ -143,7 +143,7 @@ lines_are : (b : BoardTables) → Held b → (g : Graph) → Kept (board_of b) g
 lines_are b h g l =
     let ps : Board = board_of b in
     ap (λ (t : BoardTables). t.lines) (h.whole ∙ tables-held (length ps) ps)
-    ∙ rw (texts-are ps g l, capped-room 128 (length (lines_from 0 ps)) (given-few h.setting h.chart-bytes ps h.read))
+    ∙ rw (texts-are ps g l, capped-room 128 (length (lines_from 0 ps)) (given-few h.setting h.chart_bytes ps h.read))
 
 -- tables in order answer for the graph that they hold
 answered : (t : Tables) → Roomy t → length t.names ≡ 48 → length t.sources.items ≡ 88 → length t.sinks.items ≡ 88 → t.lines ≡ held_lines (graph_of t) → (r : Tables) → r ≡ ordered_of t →
@@ -189,7 +189,7 @@ module _ (b : BoardTables) (h : Held b) (t₀ t₁ : Tables) (begin : Begun b t�
   joined_is = ap (joined t₁.n) whole-graph ∙ ap (λ (k : ℕ). joined k (complete (given_graph board))) n-is
 
   few : ends_of board ≤ 64
-  few = (accepts h.setting h.chart-bytes board h.read).ends
+  few = (accepts h.setting h.chart_bytes board h.read).ends
 
   pub drawn-fits : t₁.n + leads t₁.n (graph_of t₁) ≤ 48 → Fits (joined t₁.n (graph_of t₁))
   drawn-fits m =
@@ -220,21 +220,21 @@ module _ (b : BoardTables) (h : Held b) (t₀ t₁ : Tables) (begin : Begun b t�
       let aims : GraphAimed t₂.n (graph_of t₂) = subst (λ (k : ℕ). GraphAimed k (graph_of t₂)) size (subst (λ (u : Graph). GraphAimed (length u) u) (sym fitted) (uncut-aims ps₂)) in
       let f : ends_of ps₂ ≤ 64 = few b h t₀ t₁ begin done in
       let cx : t₂.sources.count ≤ 64 = omega (arith, table-size t₂.sources lx o.source_room, sources-held (lines_of t₂) xs ys t₂.n o.source_owners, ap (ends (λ (x : Node). x.sources)) fitted, uncut-sources ps₂ 64 f) in
-      let cy : t₂.sinks.count ≤ 64 = omega (arith, table-size t₂.sinks ly o.sink-room, sinks-held (lines_of t₂) xs ys t₂.n o.sink-owners, ap (ends (λ (x : Node). x.sinks)) fitted, uncut-sinks ps₂ 64 f) in
+      let cy : t₂.sinks.count ≤ 64 = omega (arith, table-size t₂.sinks ly o.sink_room, sinks-held (lines_of t₂) xs ys t₂.n o.sink_owners, ap (ends (λ (x : Node). x.sinks)) fitted, uncut-sinks ps₂ 64 f) in
       record {
         linked =
             record {
               nodes = o.nodes;
               source_room = o.source_room;
-              sink-room = o.sink-room;
+              sink_room = o.sink_room;
               source_owners = o.source_owners;
-              sink-owners = o.sink-owners;
+              sink_owners = o.sink_owners;
               source_aims = sources-from t₂.n t₂.n (lines_of t₂) xs ys aims o.source_owners;
-              sink-aims = sinks-from t₂.n t₂.n (lines_of t₂) xs ys aims o.sink-owners;
-              line-owners = o.line-owners;
+              sink_aims = sinks-from t₂.n t₂.n (lines_of t₂) xs ys aims o.sink_owners;
+              line_owners = o.line_owners;
             };
         source_room = omega (arith, cx);
-        sink-room = omega (arith, cy);
+        sink_room = omega (arith, cy);
         blank = j.standing.blank;
       }
 
@@ -300,7 +300,7 @@ module _ (w : Setting) (s : List ℕ) (o : BoardOutcome) (promised : IsRead w s 
       record {
         setting = w;
         sound = is.sound;
-        chart-bytes = s;
+        chart_bytes = s;
         read = read-ready e;
         whole = ap (λ (p : BoardOutcome). p.board) (is.whole ∙ ap read_of (read-ready e));
       }
@@ -322,11 +322,11 @@ none_answers a c t e =
           record {
             nodes = omega arith;
             source_room = omega arith;
-            sink-room = omega arith;
+            sink_room = omega arith;
             source_owners = tt;
-            sink-owners = tt;
+            sink_owners = tt;
             source_aims = tt;
-            sink-aims = tt;
-            line-owners = tt;
+            sink_aims = tt;
+            line_owners = tt;
           };
     })

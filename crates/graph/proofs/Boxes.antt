@@ -175,7 +175,7 @@ module _ (t r : Tables) (b : Standing t) (n p i k : ℕ) (hp : p < t.n) (room : 
   size = length-tabulate (lines_at (texts_of t.lines) t.names) 0 t.n
 
   lines : lines_of r ≡ lines_of t ++ one (one (invalid to))
-  lines = rw (en, em, el) (lines-one (texts_of t.lines) t.names t.n to (omega arith) byte b.owned.line-owners)
+  lines = rw (en, em, el) (lines-one (texts_of t.lines) t.names t.n to (omega arith) byte b.owned.line_owners)
 
   next-is : r.n ≡ suc t.n
   next-is = omega arith
@@ -196,7 +196,7 @@ module _ (t r : Tables) (b : Standing t) (n p i k : ℕ) (hp : p < t.n) (room : 
     ys₁ = set ys k (point_item t.n y)
 
     below₁ : Below t.n ys₁
-    below₁ = below_set t.n ys k (point_item t.n y) (omega (arith, f.owner)) b.owned.sink-owners
+    below₁ = below_set t.n ys k (point_item t.n y) (omega (arith, f.owner)) b.owned.sink_owners
 
     abbrev box : Option ℕ → Node
     box m = record { sources = one (record { to = p; mark = m; text = no_text }); lines = one (invalid to); sinks = [] }
@@ -218,10 +218,10 @@ module _ (t r : Tables) (b : Standing t) (n p i k : ℕ) (hp : p < t.n) (room : 
         record {
           nodes = omega arith;
           source_room = omega arith;
-          sink-room = omega (arith, b.owned.sink-room);
+          sink_room = omega (arith, b.owned.sink_room);
           source_owners = rw (ex, en) (below_one t.n (t.n + 1) xs (source_of p i t.n) (omega arith) (omega arith) b.owned.source_owners);
-          sink-owners = rw (ey, en) (below_more t.n (t.n + 1) ys₁ (omega arith) below₁);
-          line-owners = rw (el, en) (texted-more t.n (t.n + 1) (omega arith) (texts_of t.lines) b.owned.line-owners);
+          sink_owners = rw (ey, en) (below_more t.n (t.n + 1) ys₁ (omega arith) below₁);
+          line_owners = rw (el, en) (texted-more t.n (t.n + 1) (omega arith) (texts_of t.lines) b.owned.line_owners);
         }
 
     pub sink-joined : r.cuts ≡ t.cuts → EndJoined (λ u. u.sinks) (join_sink n) t p i k r
@@ -257,17 +257,17 @@ module _ (t r : Tables) (b : Standing t) (n p i k : ℕ) (hp : p < t.n) (room : 
         ∙ ap (λ (d : ℕ). with_sources g p (set (node_at g p).sources i (pointed (length g) (edge_of x))) ++ one (source_box p d)) is
         ∙ ap (λ (a : ℕ). with_sources g p (set (node_at g p).sources i (pointed a (edge_of x))) ++ one (source_box p to)) (length-graph t.n (lines_of t) xs ys)
         ∙ ap (λ (h : Graph). h ++ one (source_box p to)) (mark-graph xs p i k f t.n (lines_of t) ys (point_item t.n x) f.owner hp)
-        ∙ one-sink t.n (lines_of t) xs₁ ys (sink_of p t.n) (one (invalid to)) size below₂ b.owned.sink-owners refl))
+        ∙ one-sink t.n (lines_of t) xs₁ ys (sink_of p t.n) (one (invalid to)) size below₂ b.owned.sink_owners refl))
 
     source_owned : Owned r
     source_owned =
         record {
           nodes = omega arith;
           source_room = omega (arith, b.owned.source_room);
-          sink-room = omega arith;
+          sink_room = omega arith;
           source_owners = rw (ex, en) (below_more t.n (t.n + 1) xs₁ (omega arith) below₂);
-          sink-owners = rw (ey, en) (below_one t.n (t.n + 1) ys (sink_of p t.n) (omega arith) (omega arith) b.owned.sink-owners);
-          line-owners = rw (el, en) (texted-more t.n (t.n + 1) (omega arith) (texts_of t.lines) b.owned.line-owners);
+          sink_owners = rw (ey, en) (below_one t.n (t.n + 1) ys (sink_of p t.n) (omega arith) (omega arith) b.owned.sink_owners);
+          line_owners = rw (el, en) (texted-more t.n (t.n + 1) (omega arith) (texts_of t.lines) b.owned.line_owners);
         }
 
     pub source_joined : r.cuts ≡ t.cuts → EndJoined (λ u. u.sources) (join_source n) t p i k r
@@ -352,8 +352,8 @@ module _ (n : ℕ) where
       (within_more g p (pointed_source g p i e) (source_box p e.to) (length-set (node_at g p).sources i (pointed (length g) e)) refl)
 
   -- there is room where a box is made
-  pub sink-room : (g : Graph) (p i : ℕ) (e : Edge) → n ≤ e.to → Fits (join_sink n g p i e) → (length g < 48) × (ends (λ (x : Node). x.sources) g < 88)
-  sink-room g p i e l f =
+  pub sink_room : (g : Graph) (p i : ℕ) (e : Edge) → n ≤ e.to → Fits (join_sink n g p i e) → (length g < 48) × (ends (λ (x : Node). x.sources) g < 88)
+  sink_room g p i e l f =
       let x : Node = pointed_sink g p i e in
       let y : Node = sink_box p i e.to in
       let k : Fits (set g p x ++ one y) = rw (le-ltb e.to n l) at f in
@@ -411,8 +411,8 @@ module _ (side : Tables → Table) (step : Graph → ℕ → ℕ → Edge → Gr
     pub less : i ≤ k
     pub rest : all (graph_of s) p i (owned p (drop k (items_of (side t)))) ≡ all (graph_of t) p 0 (owned p (items_of (side t)))
 
-  pub going-first : (t : Tables) (p : ℕ) → Standing t → Going t p t 0 0
-  going-first t p b = record { standing = b; cuts = refl; lines = refl; more = omega arith; within = omega arith; size = refl; ahead = refl; number = refl; less = omega arith; rest = refl }
+  pub going_first : (t : Tables) (p : ℕ) → Standing t → Going t p t 0 0
+  going_first t p b = record { standing = b; cuts = refl; lines = refl; more = omega arith; within = omega arith; size = refl; ahead = refl; number = refl; less = omega arith; rest = refl }
 
   module _ (unrolled : (g : Graph) (p i : ℕ) (e : Edge) (es : List Edge) → all g p i (e ∷ es) ≡ all (step g p i e) p (suc i) es)
       (t : Tables) (p : ℕ) (s : Tables) (long : length (side s).items ≡ 88) (room : (side s).count ≤ 88) (i k : ℕ) (l : Going t p s i k) where
@@ -422,15 +422,15 @@ module _ (side : Tables → Table) (step : Graph → ℕ → ℕ → Edge → Gr
     abbrev ss : List Item
     ss = items_of (side s)
 
-    long-is : length ts ≡ (side s).count
-    long-is = sym l.size ∙ table-size (side s) long room
+    long_is : length ts ≡ (side s).count
+    long_is = sym l.size ∙ table-size (side s) long room
 
     pub going_end : (side s).count ≤ k → all (graph_of s) p i [] ≡ all (graph_of t) p 0 (owned p ts)
-    going_end h = rw (owned-end p k ts (omega (arith, long-is))) at l.rest
+    going_end h = rw (owned-end p k ts (omega (arith, long_is))) at l.rest
 
     module _ (h : k < (side s).count) where
       in_given : k < length ts
-      in_given = omega (arith, long-is)
+      in_given = omega (arith, long_is)
 
       in_list : k < length ss
       in_list = omega (arith, in_given, l.size)
@@ -444,8 +444,8 @@ module _ (side : Tables → Table) (step : Graph → ℕ → ℕ → Edge → Gr
       further : drop (suc k) ss ≡ drop (suc k) ts
       further = cc (l.ahead, drop-cons ss k no_item in_list, drop-cons ts k no_item in_given)
 
-      pub going-other : ((get_or (side s).items k no_item).owner ≡ p → ⊥) → Going t p s i (k + 1)
-      going-other o =
+      pub going_other : ((get_or (side s).items k no_item).owner ≡ p → ⊥) → Going t p s i (k + 1)
+      going_other o =
           let o' : (get_or ss k no_item).owner ≡ p → ⊥ = λ z. o (rw here at z) in
           record {
             standing = l.standing;
@@ -464,23 +464,23 @@ module _ (side : Tables → Table) (step : Graph → ℕ → ℕ → Edge → Gr
         own : (get_or ss k no_item).owner ≡ p
         own = rw here o
 
-        given-own : (get_or ts k no_item).owner ≡ p
-        given-own = rw (← still) own
+        given_own : (get_or ts k no_item).owner ≡ p
+        given_own = rw (← still) own
 
-        pub going-sunk : Sunk ss p i k
-        going-sunk = record { inside = in_list; owner = own; number = l.number }
+        pub going_sunk : Sunk ss p i k
+        going_sunk = record { inside = in_list; owner = own; number = l.number }
 
         unroll : all (step (graph_of s) p i (edge_of (get_or ss k no_item))) p (suc i) (owned p (drop (suc k) ts)) ≡ all (graph_of t) p 0 (owned p ts)
         unroll =
             ap (λ (x : Item). all (step (graph_of s) p i (edge_of x)) p (suc i) (owned p (drop (suc k) ts))) still
             ∙ sym (unrolled (graph_of s) p i (edge_of (get_or ts k no_item)) (owned p (drop (suc k) ts)))
-            ∙ (rw (owned-own p k ts in_given given-own) at l.rest)
+            ∙ (rw (owned-own p k ts in_given given_own) at l.rest)
 
-        pub going-fits : ((es : List Edge) (g : Graph) (q j : ℕ) → Within g (all g q j es)) → Fits (all (graph_of t) p 0 (owned p ts)) → Fits (step (graph_of s) p i (edge_of (get_or ss k no_item)))
-        going-fits w f = fits-within (w (owned p (drop (suc k) ts)) (step (graph_of s) p i (edge_of (get_or ss k no_item))) p (suc i)) (subst Fits (sym unroll) f)
+        pub going_fits : ((es : List Edge) (g : Graph) (q j : ℕ) → Within g (all g q j es)) → Fits (all (graph_of t) p 0 (owned p ts)) → Fits (step (graph_of s) p i (edge_of (get_or ss k no_item)))
+        going_fits w f = fits-within (w (owned p (drop (suc k) ts)) (step (graph_of s) p i (edge_of (get_or ss k no_item))) p (suc i)) (subst Fits (sym unroll) f)
 
-        pub going-own : (r : Tables) → EndJoined side step s p i k r → Going t p r (i + 1) (k + 1)
-        going-own r a =
+        pub going_own : (r : Tables) → EndJoined side step s p i k r → Going t p r (i + 1) (k + 1)
+        going_own r a =
             let y : Item = point_item a.to (get_or ss k no_item) in
             let rs : List Item = items_of (side r) in
             let front : take k rs ≡ take k ss = rw a.items (take-set-le k ss k y (omega arith)) in

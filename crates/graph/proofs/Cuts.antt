@@ -354,25 +354,25 @@ module _ (t r : Tables) (b : Roomy t) (c s k : ℕ) (f : Sunk (items_of t.sinks)
   ys₂ = set (items_of t.sinks) k (point_item t.n yk)
 
   pub to_in : yk.to < t.n
-  to_in = aimed-at t.n (items_of t.sinks) k b.linked.sink-aims f.inside
+  to_in = aimed-at t.n (items_of t.sinks) k b.linked.sink_aims f.inside
 
   pub cut-linked : Linked r
   cut-linked =
       record {
         nodes = omega arith;
         source_room = omega (arith, b.source_room);
-        sink-room = omega (arith, b.sink-room);
+        sink_room = omega (arith, b.sink_room);
         source_owners = rw (ex, en) (below_one t.n (t.n + 2) xs₂ (new_source t.n c s) (omega arith) (omega arith) (below_turn yk.to c (suc t.n) t.n (items_of t.sources) b.linked.source_owners));
-        sink-owners = rw (ey, en) (below_one t.n (t.n + 2) ys₂ (new_sink t.n yk.to) (omega arith) (omega arith) (below_set t.n (items_of t.sinks) k (point_item t.n yk) (omega (arith, f.owner)) b.linked.sink-owners));
+        sink_owners = rw (ey, en) (below_one t.n (t.n + 2) ys₂ (new_sink t.n yk.to) (omega arith) (omega arith) (below_set t.n (items_of t.sinks) k (point_item t.n yk) (omega (arith, f.owner)) b.linked.sink_owners));
         source_aims =
             rw (ex, en)
             (aimed-one (t.n + 2) xs₂ (new_source t.n c s) (omega arith)
             (aimed_turn yk.to c (suc t.n) (t.n + 2) (omega arith) (items_of t.sources) (aimed_more t.n (t.n + 2) (omega arith) (items_of t.sources) b.linked.source_aims)));
-        sink-aims =
+        sink_aims =
             rw (ey, en)
             (aimed-one (t.n + 2) ys₂ (new_sink t.n yk.to) (omega (arith, to_in))
-            (aimed-set (t.n + 2) (items_of t.sinks) k (point_item t.n yk) (omega arith) (aimed_more t.n (t.n + 2) (omega arith) (items_of t.sinks) b.linked.sink-aims)));
-        line-owners = rw (el, en) (texted-more t.n (t.n + 2) (omega arith) (texts_of t.lines) b.linked.line-owners);
+            (aimed-set (t.n + 2) (items_of t.sinks) k (point_item t.n yk) (omega arith) (aimed_more t.n (t.n + 2) (omega arith) (items_of t.sinks) b.linked.sink_aims)));
+        line_owners = rw (el, en) (texted-more t.n (t.n + 2) (omega arith) (texts_of t.lines) b.linked.line_owners);
       }
 
   pub cut-sound : Roomy r
@@ -380,7 +380,7 @@ module _ (t r : Tables) (b : Roomy t) (c s k : ℕ) (f : Sunk (items_of t.sinks)
       record {
         linked = cut-linked;
         source_room = omega (arith, b.source_room);
-        sink-room = omega (arith, b.sink-room);
+        sink_room = omega (arith, b.sink_room);
         blank = λ m h l.
             rw em
             (get_or-set_other (set t.names t.n yk.to) (t.n + 1) m yk.to 0 (omega arith)
@@ -393,10 +393,10 @@ module _ (t r : Tables) (b : Roomy t) (c s k : ℕ) (f : Sunk (items_of t.sinks)
       let q = yk.to in
       let size : length (lines_of t) ≡ t.n = length-tabulate (lines_at (texts_of t.lines) t.names) 0 t.n in
       let lines : lines_of r ≡ lines_of t ++ (one (number q) ∷ one (number q) ∷ []) =
-      rw (en, em, el) (lines_more (texts_of t.lines) t.names t.n q (omega arith) (omega (arith, to_in)) b.linked.line-owners) in
+      rw (en, em, el) (lines_more (texts_of t.lines) t.names t.n q (omega arith) (omega (arith, to_in)) b.linked.line_owners) in
       let two : r.n ≡ suc (suc t.n) = omega arith in
       rw (lines, ex, ey, two)
-      (sym (cut-graph t.n (lines_of t) (items_of t.sources) (items_of t.sinks) c s k f size b.linked.source_owners b.linked.sink-owners hc to_in))
+      (sym (cut-graph t.n (lines_of t) (items_of t.sources) (items_of t.sinks) c s k f size b.linked.source_owners b.linked.sink_owners hc to_in))
 
 -- the same as the code makes r: a and y are the tables turned and pointed, x and z those with a record more
 pub cut-to : (t : Tables) (b : Roomy t) (c s k : ℕ) (f : Sunk (items_of t.sinks) c s k) (hc : c < t.n) (room : t.n + 2 ≤ 48) (long : length t.names ≡ 48)

@@ -82,8 +82,8 @@ module _ (v : Setting) (s : List ℕ) (ps : Board) (r : chart v s ≡ accepted p
         unmarked = cut-plain ps;
         lines = lines-kept ps;
         texts = cutting-texts (given_graph ps) g (length ps) (omega (arith, uncut-long ps)) (uncut-texts ps);
-        sinks-joined = uncut-own-sinks ps;
-        sources-joined = uncut-own-sources ps;
+        sinks_joined = uncut-own-sinks ps;
+        sources_joined = uncut-own-sources ps;
         joined = uncut-boxes ps;
         kept = cut-kept ps;
         inserted = lines_new ps;
@@ -250,9 +250,9 @@ module _ (w : Setting) (s : List ℕ) (bytes : Bytes s) (t : Tables) (b : Linked
     tables-sound =
         record {
           linked = b;
-          line-room = few;
+          line_room = few;
           source_marks = rw items-are (all-flat item_of (λ (x : Node). x.sources) (length u) Low (λ (x : Item). x.mark ≤ 88) (λ p y h k. k) 0 u (omega arith) lows);
-          sink-marks = rw sinks-are (all-flat item_of (λ (x : Node). x.sinks) (length u) Plain (λ (x : Item). x.mark ≡ 0) (λ p y h k. ap held_mark k) 0 u (omega arith) l.unmarked);
+          sink_marks = rw sinks-are (all-flat item_of (λ (x : Node). x.sinks) (length u) Plain (λ (x : Item). x.mark ≡ 0) (λ p y h k. ap held_mark k) 0 u (omega arith) l.unmarked);
           names = names;
         }
 
@@ -278,9 +278,9 @@ module _ (w : Setting) (s : List ℕ) (bytes : Bytes s) (r : Outcome) (a : IsAns
       let y : r.graph ≡ no_nodes = ap (λ (o : Outcome). o.graph) (a.whole ∙ ap outcome_of z) in
       record {
         linked = a.linked;
-        line-room = rw y (omega arith);
+        line_room = rw y (omega arith);
         source_marks = rw y tt;
-        sink-marks = rw y tt;
+        sink_marks = rw y tt;
         names = rw y (all_repeat Name 48 512 (λ o. absurd (o refl)));
       }
 

@@ -209,8 +209,8 @@ module _ (n : ℕ) (v₀ : List ℕ) (P : Walk → Type 0)
       }
 
   -- a node without sinks is on the path and off again
-  keep-bare : (w : Walk) (c : ℕ) → c < n → Keeping w → Keeping (seeing (seeing w c on_path) c explored)
-  keep-bare w c l k =
+  keep_bare : (w : Walk) (c : ℕ) → c < n → Keeping w → Keeping (seeing (seeing w c on_path) c explored)
+  keep_bare w c l k =
       record {
         given = see_given (seeing w c on_path) c explored l (see_given w c on_path l k.given);
         busy = λ q e. k.busy q (seen_twice w.seen c q e);
@@ -233,8 +233,8 @@ module _ (n : ℕ) (v₀ : List ℕ) (P : Walk → Type 0)
     abbrev x : ℕ
     x = seen_at w.seen e.to
 
-    keep-cut : e.to < n → x ≡ on_path → Keeping (cut w c s e)
-    keep-cut h z =
+    keep_cut : e.to < n → x ≡ on_path → Keeping (cut w c s e)
+    keep_cut h z =
         record {
           given = record { longer = omega (arith, k.given.longer, (cut-grown w c s e).longer); after = λ j l. two-more w.seen j (k.given.after j l) };
           busy = λ q f. let b : 0 < degree w.graph q = k.busy q (seen_more w.seen q f) in omega (arith, b, (cut-grown w c s e).same q (degree_in w.graph q b));
@@ -242,33 +242,33 @@ module _ (n : ℕ) (v₀ : List ℕ) (P : Walk → Type 0)
           keeps = cuts w c s hc hs h k.given.longer (k.busy e.to z) hf k.keeps;
         }
 
-    keep-look : Keeping (look go w c s)
-    keep-look =
+    keep_look : Keeping (look go w c s)
+    keep_look =
         pick-by Keeping (eqb x unseen) (go w e.to) (cond (eqb x on_path) (cut w c s e) w)
         (λ t. let z : x ≡ 0 = eqb-true x 0 t in f w e.to (given_in w k e.to x refl (λ u. omega arith) (ltb e.to n) refl) (k.fresh e.to z) k)
-        (λ t. pick-by Keeping (eqb x on_path) (cut w c s e) w (λ r. let z : x ≡ 2 = eqb-true x 2 r in keep-cut (given_in w k e.to x refl (λ u. omega arith) (ltb e.to n) refl) z) (λ r. k))
+        (λ t. pick-by Keeping (eqb x on_path) (cut w c s e) w (λ r. let z : x ≡ 2 = eqb-true x 2 r in keep_cut (given_in w k e.to x refl (λ u. omega arith) (ltb e.to n) refl) z) (λ r. k))
 
-  keep-sinks : (go : Walk → ℕ → Walk) → Kept go → Grows go → (m : ℕ) (w : Walk) (c s : ℕ) → c < n → seen_at v₀ c ≡ unseen → s + m ≤ degree w.graph c → Keeping w → Keeping (explore_sinks go w c s m)
-  keep-sinks go f g zero w c s hc hf h k = k
-  keep-sinks go f g (suc m) w c s hc hf h k =
-      keep-sinks go f g m (look go w c s) c (suc s) hc hf (omega (arith, (look-grown go g w c s).same c (omega (arith, k.given.longer)))) (keep-look go f w c s hc hf (omega arith) k)
+  keep_sinks : (go : Walk → ℕ → Walk) → Kept go → Grows go → (m : ℕ) (w : Walk) (c s : ℕ) → c < n → seen_at v₀ c ≡ unseen → s + m ≤ degree w.graph c → Keeping w → Keeping (explore_sinks go w c s m)
+  keep_sinks go f g zero w c s hc hf h k = k
+  keep_sinks go f g (suc m) w c s hc hf h k =
+      keep_sinks go f g m (look go w c s) c (suc s) hc hf (omega (arith, (look-grown go g w c s).same c (omega (arith, k.given.longer)))) (keep_look go f w c s hc hf (omega arith) k)
 
-  keep-node : (go : Walk → ℕ → Walk) → Kept go → Grows go → (w : Walk) (c : ℕ) → c < n → seen_at v₀ c ≡ unseen → Keeping w → Keeping (seeing (explore_sinks go (seeing w c on_path) c 0 (degree w.graph c)) c explored)
-  keep-node go f g w c hc hf k = by (degree w.graph c) refl
+  keep_node : (go : Walk → ℕ → Walk) → Kept go → Grows go → (w : Walk) (c : ℕ) → c < n → seen_at v₀ c ≡ unseen → Keeping w → Keeping (seeing (explore_sinks go (seeing w c on_path) c 0 (degree w.graph c)) c explored)
+  keep_node go f g w c hc hf k = by (degree w.graph c) refl
     where
       by : (m : ℕ) → degree w.graph c ≡ m → Keeping (seeing (explore_sinks go (seeing w c on_path) c 0 m) c explored)
-      by zero z = keep-bare w c hc k
+      by zero z = keep_bare w c hc k
       by (suc m) z =
           keep_see (explore_sinks go (seeing w c on_path) c 0 (suc m)) c explored hc (λ e. omega arith) (λ e. absurd (omega arith))
-          (keep-sinks go f g (suc m) (seeing w c on_path) c 0 hc hf (omega arith) (keep_see w c on_path hc (λ e. omega arith) (λ e. omega arith) k))
+          (keep_sinks go f g (suc m) (seeing w c on_path) c 0 hc hf (omega arith) (keep_see w c on_path hc (λ e. omega arith) (λ e. omega arith) k))
 
-  keep-from : (d : ℕ) → Kept (explore_from d)
-  keep-from zero w c hc hf k = k
-  keep-from (suc d) w c hc hf k = keep-node (λ u q. explore_from d u q) (keep-from d) (from-grown d) w c hc hf k
+  keep_from : (d : ℕ) → Kept (explore_from d)
+  keep_from zero w c hc hf k = k
+  keep_from (suc d) w c hc hf k = keep_node (λ u q. explore_from d u q) (keep_from d) (from-grown d) w c hc hf k
 
-  pub cutting-keeps : (g : Graph) → length g ≡ n → reached g ≡ v₀ → P (beginning g) → Keeping (cutting g)
+  pub cutting_keeps : (g : Graph) → length g ≡ n → reached g ≡ v₀ → P (beginning g) → Keeping (cutting g)
   unfolding cutting
-  cutting-keeps g e r h =
+  cutting_keeps g e r h =
       let first : Keeping (beginning g) =
       record {
         given = record { longer = omega arith; after = λ k l. get_or-eq_default (reached g) 3 (omega (arith, reached-long g)) };
@@ -277,5 +277,5 @@ module _ (n : ℕ) (v₀ : List ℕ) (P : Walk → Type 0)
         keeps = h;
       } in
       each_keeps Keeping (start (length g)) n
-      (λ p w l k. pick-by Keeping (eqb (seen_at w.seen p) unseen) (explore_from (length g) w p) w (λ z. keep-from (length g) w p l (k.fresh p (eqb-true (seen_at w.seen p) unseen z)) k) (λ z. k))
+      (λ p w l k. pick-by Keeping (eqb (seen_at w.seen p) unseen) (explore_from (length g) w p) w (λ z. keep_from (length g) w p l (k.fresh p (eqb-true (seen_at w.seen p) unseen z)) k) (λ z. k))
       (beginning g) first (length g) (omega arith)

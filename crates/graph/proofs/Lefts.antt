@@ -78,17 +78,17 @@ module _ (g : ℕ) (t : Tables) (b : Fit g t) (long : length t.sinks.items ≡ 8
       record {
         graph =
             rw (node-graph t.n (lines_of t) (items_of t.sources) ys p hp)
-            (rw (owned-end p k ys (omega (arith, table-size t.sinks long b.linked.sink-room))) at l.rest);
+            (rw (owned-end p k ys (omega (arith, table-size t.sinks long b.linked.sink_room))) at l.rest);
         fit =
             record {
               linked =
                   record {
                     nodes = b.linked.nodes;
                     source_room = omega (arith, l.room, room);
-                    sink-room = b.linked.sink-room;
+                    sink_room = b.linked.sink_room;
                     source_owners = l.owners;
-                    sink-owners = b.linked.sink-owners;
-                    line-owners = b.linked.line-owners;
+                    sink_owners = b.linked.sink_owners;
+                    line_owners = b.linked.line_owners;
                   };
               sinked = l.sinked;
               paired = l.paired;
@@ -105,10 +105,10 @@ module _ (g : ℕ) (t : Tables) (b : Fit g t) (long : length t.sinks.items ≡ 8
     e = get_or t.sinks.items k no_item
 
     inside : k < length ys
-    inside = omega (arith, table-size t.sinks long b.linked.sink-room)
+    inside = omega (arith, table-size t.sinks long b.linked.sink_room)
 
     here : get_or ys k no_item ≡ e
-    here = table_at t.sinks long b.linked.sink-room k h
+    here = table_at t.sinks long b.linked.sink_room k h
 
     pub left_other : (e.owner ≡ p → ⊥) → Left g t p s i (k + 1)
     left_other o =

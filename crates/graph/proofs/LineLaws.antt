@@ -21,7 +21,7 @@ use Rattle.graph.specs.Completion.{gain_source, marked, gain_sink, complete}
 use Rattle.graph.specs.Cutting.{Walk, turned, pointed, first_node, second_node, cut_graph, cut, unseen, seen_at, reached, cutting}
 use Rattle.graph.specs.Laws.{Named}
 use Rattle.graph.proofs.Resumes.{Grown, cut-grown, length_cut}
-use Rattle.graph.proofs.Keeps.{steps_keep, root_seen, cutting-keeps}
+use Rattle.graph.proofs.Keeps.{steps_keep, root_seen, cutting_keeps}
 use Rattle.graph.proofs.AimLaws.{all_set, all-at, all_in}
 
 -- what a change of sources and sinks leaves alone
@@ -145,7 +145,7 @@ module _ (n : ℕ) (ls : List (List Line)) where
   -- n given nodes, and others that no sink goes on from
   pub cutting_lined : (g : Graph) → n ≤ length g → Closed n g → lines_in g ≡ ls → Lined n ls (cutting g).graph × Closed n (cutting g).graph
   cutting_lined g lo k i =
-      (cutting-keeps (length g) (reached g) (λ w. Lined n ls w.graph × Closed n w.graph) (λ w c x l. l)
+      (cutting_keeps (length g) (reached g) (λ w. Lined n ls w.graph × Closed n w.graph) (λ w c x l. l)
       (λ w c s hc hs h m bz fr l. (lined_cut w c s _ (closed-given n w.graph c s hs bz l.1) l.0, closed-cut n w c s (omega arith) hs bz l.1)) g refl refl
       (record { rest = []; lines = i ∙ sym (append-nil ls); named = tt; paired = tt }, k)).keeps
 
@@ -162,7 +162,7 @@ Idle n g = (k : ℕ) → n ≤ k → k < length g → (degree g k ≡ 0) ⊎ ((n
 
 pub cutting-kept : (n : ℕ) (g : Graph) → n ≤ length g → Closed n g → Idle n g → (k : ℕ) → n ≤ k → k < length g → node_at (cutting g).graph k ≡ node_at g k
 cutting-kept n g lo cl idle =
-    (cutting-keeps (length g) (reached g) (λ w. ((k : ℕ) → n ≤ k → k < length g → node_at w.graph k ≡ node_at g k) × Closed n w.graph) (λ w c x h. h)
+    (cutting_keeps (length g) (reached g) (λ w. ((k : ℕ) → n ≤ k → k < length g → node_at w.graph k ≡ node_at g k) × Closed n w.graph) (λ w c x h. h)
     (λ w c s hc hs hq m bz fr h.
     let q-in : (get_or (node_at w.graph c).sinks s no_edge).to < n = closed-given n w.graph c s hs bz h.1 in
     let c-in : c < n = given_in w c s hc hs fr h.0 (ltb c n) refl in

@@ -18,7 +18,7 @@ use Rattle.graph.specs.Graph.{Edge, Node, Graph, no_text, no_edge, bare, node_at
 use Rattle.graph.specs.Completion.{gain_source, marked, gain_sink, complete}
 use Rattle.graph.specs.Cutting.{turned, pointed, first_node, second_node, cut_graph, reached, cutting}
 use Rattle.graph.specs.Laws.{SinkAt, Names, Marked}
-use Rattle.graph.proofs.Keeps.{cutting-keeps}
+use Rattle.graph.proofs.Keeps.{cutting_keeps}
 use Rattle.graph.proofs.Completes.{SourceAt, sinks-at, complete-holds}
 use Rattle.graph.proofs.AimLaws.{all_set}
 
@@ -136,8 +136,8 @@ module _ (n : ℕ) (g : Graph) (p j : ℕ) (e : Edge) (l : p < n) (t : e.to < le
   olds : (r : ℕ) → All (Names k₂ r) (node_at h₂ r).sources
   olds r = rw (sources-same r) (names-moved g k₂ both r (node_at g r).sources (a.marks r))
 
-  sink-marks : Marked k₂
-  sink-marks r =
+  sink_marks : Marked k₂
+  sink_marks r =
       node-set (λ (y : Node). All (Names k₂ r) y.sources) h₂ p _ r
       (λ z.
       subst (λ (k : ℕ). All (Names k₂ k) fs) (sym z)
@@ -147,7 +147,7 @@ module _ (n : ℕ) (g : Graph) (p j : ℕ) (e : Edge) (l : p < n) (t : e.to < le
 pub gain-sink-good : (n : ℕ) (g : Graph) (p j : ℕ) (e : Edge) → p < n → e.to < length g → SourceAt g p j e → Good n g → Good n (gain_sink g p j e)
 gain-sink-good n g p j e l t s a =
     pick-by (Good n) (leads_to (node_at g e.to).sinks p) g (k₂ n g p j e l t s a) (λ z. a)
-    (λ z. record { long = length-set (h₂ n g p j e l t s a) p _ ∙ length-set g e.to _ ∙ a.long; marks = sink-marks n g p j e l t s a })
+    (λ z. record { long = length-set (h₂ n g p j e l t s a) p _ ∙ length-set g e.to _ ∙ a.long; marks = sink_marks n g p j e l t s a })
 
 pub complete-good : (n : ℕ) (g : Graph) → Good n g → Good n (complete g)
 complete-good n g a = complete-holds n (Good n) (gain_source_good n) (gain-sink-good n) g a.long a
@@ -273,5 +273,5 @@ module _ (g : Graph) (c s : ℕ) (hc : c < length g) (hs : s < degree g c) (hq :
 
 pub cutting-marks : (g : Graph) → Marked g → Marked (cutting g).graph
 cutting-marks g m =
-    (cutting-keeps (length g) (reached g) (λ w. Marked w.graph) (λ w c x h. h)
+    (cutting_keeps (length g) (reached g) (λ w. Marked w.graph) (λ w c x h. h)
     (λ w c s hc hs hq lo bz fr h. cut-marks w.graph c s (omega arith) hs (omega arith) h) g refl refl m).keeps

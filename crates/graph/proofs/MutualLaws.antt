@@ -244,8 +244,8 @@ module _ (n x y : ℕ) where
         back = λ h. source_sink g p i q s x y (a.back h);
       }
 
-  gain-sink-pairs : (k l : ℕ) (g : Graph) (p j : ℕ) (e : Edge) → p < n → e.to < length g → SourceAt g p j e → Pairs k l g → Pairs k l (gain_sink g p j e)
-  gain-sink-pairs k l g p j e h m s a =
+  gain_sink_pairs : (k l : ℕ) (g : Graph) (p j : ℕ) (e : Edge) → p < n → e.to < length g → SourceAt g p j e → Pairs k l g → Pairs k l (gain_sink g p j e)
+  gain_sink_pairs k l g p j e h m s a =
       record {
         long = sink-long g p j e ∙ a.long;
         there = λ h. sink_source₂ g p j e s x y (a.there h);
@@ -253,8 +253,8 @@ module _ (n x y : ℕ) where
       }
 
   module _ (inx : x < n) (iny : y < n) (p : ℕ) (inp : p < n) where
-    sinks-pairs : (g : Graph) → Pairs p p g → Pairs (suc p) p (complete_sinks g p 0 (node_at g p).sinks)
-    sinks-pairs g a =
+    sinks_pairs : (g : Graph) → Pairs p p g → Pairs (suc p) p (complete_sinks g p 0 (node_at g p).sinks)
+    sinks_pairs g a =
         let b : Pairs p p m = sinks_hold n (Pairs p p) (gain_source_pairs p p) (node_at g p).sinks g p 0 inp refl a in
         record { long = b.long; there = λ h. by b (less? x p) h; back = b.back }
       where
@@ -268,9 +268,9 @@ module _ (n x y : ℕ) where
             subst (λ (z : ℕ). Sink m z y → Source m z y) e
             (λ t. all-gained (node_at g p).sinks g p 0 y (subst (λ (z : ℕ). y < z) (sym a.long) iny) (subst (λ (es : List Edge). leads_to es y ≡ true) (all-same-sinks (node_at g p).sinks g p 0 p) t))
 
-    sources-pairs : (m : Graph) → Pairs (suc p) p m → Pairs (suc p) (suc p) (complete_sources m p 0 (node_at m p).sources)
-    sources-pairs m a =
-        let b : Pairs (suc p) p k = sources_hold n (Pairs (suc p) p) (gain-sink-pairs (suc p) p) (node_at m p).sources m p 0 inp refl a in
+    sources_pairs : (m : Graph) → Pairs (suc p) p m → Pairs (suc p) (suc p) (complete_sources m p 0 (node_at m p).sources)
+    sources_pairs m a =
+        let b : Pairs (suc p) p k = sources_hold n (Pairs (suc p) p) (gain_sink_pairs (suc p) p) (node_at m p).sources m p 0 inp refl a in
         record { long = b.long; there = b.there; back = λ h. by b (less? y p) h }
       where
         k : Graph
@@ -289,8 +289,8 @@ module _ (n x y : ℕ) where
             subst (λ (z : ℕ). Source k x z → Sink k x z) e
             (λ t. all_gained₂ (node_at m p).sources m p 0 x (subst (λ (z : ℕ). x < z) (sym a.long) inx) (sym same ∙ t))
 
-    node-pairs : (g : Graph) → Pairs p p g → Pairs (suc p) (suc p) (complete_node g p)
-    node-pairs g a = sources-pairs (complete_sinks g p 0 (node_at g p).sinks) (sinks-pairs g a)
+    node_pairs : (g : Graph) → Pairs p p g → Pairs (suc p) (suc p) (complete_node g p)
+    node_pairs g a = sources_pairs (complete_sinks g p 0 (node_at g p).sinks) (sinks_pairs g a)
 
 both_true : (a b : Bool) → (a ≡ true → b ≡ true) → (b ≡ true → a ≡ true) → a ≡ b
 both_true true true f g = refl
@@ -304,7 +304,7 @@ unfolding complete
 mutual_given g p q hp hq =
     let n : ℕ = length g in
     let a : Pairs n p q n n (complete g) =
-    each_holds (λ k h. Pairs n p q k k h) (λ r h. complete_node h r) n (λ r h l a. node-pairs n p q hp hq r l h a) g
+    each_holds (λ k h. Pairs n p q k k h) (λ r h. complete_node h r) n (λ r h l a. node_pairs n p q hp hq r l h a) g
     (record { long = refl; there = λ h. absurd (not-suc-le-zero h); back = λ h. absurd (not-suc-le-zero h) }) n (omega arith) in
     both_true (leads_to (node_at (complete g) p).sinks q) (leads_to (node_at (complete g) q).sources p) (a.there hp) (a.back hq)
 

@@ -196,13 +196,13 @@ module _ (g : ℕ) (xs ys : List Item) (p j k : ℕ) (f : Sunk xs p j k) (s : Si
   abbrev x : Item
   x = get_or xs k no_item
 
-  unmarked-by : (b : Bool) → eqb x.mark 0 ≡ b → x.mark ≡ 0
-  unmarked-by true e = eqb-true _ _ e
-  unmarked-by false e =
+  unmarked_by : (b : Bool) → eqb x.mark 0 ≡ b → x.mark ≡ 0
+  unmarked_by true e = eqb-true _ _ e
+  unmarked_by false e =
       false_true (sym lack ∙ subst (λ (o : ℕ). leads_to (owned x.to ys) o ≡ true) f.owner (sinked-at ys xs k f.inside s (eqb-false _ _ e)))
 
   unmarked : x.mark ≡ 0
-  unmarked = unmarked-by (eqb x.mark 0) refl
+  unmarked = unmarked_by (eqb x.mark 0) refl
 
   module _ (m : ℕ) (em : m ≡ length (owned x.to ys)) where
     abbrev z : Item

@@ -24,7 +24,7 @@ use Rattle.graph.specs.Completion.{gain_source, complete_sinks, marked, gain_sin
 use Rattle.graph.specs.Cutting.{turned, pointed, first_node, second_node, cut_graph, reached, cutting}
 use Rattle.graph.specs.Joining.{outside}
 use Rattle.graph.specs.Laws.{SinkAt, Names, ends}
-use Rattle.graph.proofs.Keeps.{cutting-keeps}
+use Rattle.graph.proofs.Keeps.{cutting_keeps}
 use Rattle.graph.proofs.Pairs.{false_true, or_mono, or_right, and_false}
 use Rattle.graph.proofs.Completes.{unmark, SourceAt, sinks_in, sources_in, sinks-at, gain_source_sinks, gain-sink-sources, sources_hold, complete-holds, drop_head}
 use Rattle.graph.proofs.AimLaws.{all_in}
@@ -163,31 +163,31 @@ module _ (n m : ℕ) (g₀ : Graph) where
     abbrev h : Graph
     h = with_sources g q (es ++ one new)
 
-    h-sinks : (r : ℕ) → (node_at h r).sinks ≡ (node_at g r).sinks
-    h-sinks r = sinks-at g h (map-set_same (λ (y : Node). y.sinks) g q _ bare refl) r
+    h_sinks : (r : ℕ) → (node_at h r).sinks ≡ (node_at g r).sinks
+    h_sinks r = sinks-at g h (map-set_same (λ (y : Node). y.sinks) g q _ bare refl) r
 
-    h-paired : Paired h
-    h-paired r k x o t =
-        let t' : SinkAt g r k x = record { inside = rw (h-sinks r) at t.inside; leads = rw (h-sinks r) at t.leads } in
+    h_paired : Paired h
+    h_paired r k x o t =
+        let t' : SinkAt g r k x = record { inside = rw (h_sinks r) at t.inside; leads = rw (h_sinks r) at t.leads } in
         let old : has_marked (node_at g x).sources r k ≡ true = a.paired r k x o t' in
         node-set (λ (y : Node). has_marked y.sources r k ≡ true) g q _ x
         (λ z. marked_append es new r k (subst (λ (j : ℕ). has_marked (node_at g j).sources r k ≡ true) z old)) old
 
-    h-room : total sink_count h + total bare_count h ≤ m
-    h-room = omega (arith, a.room, total-same sink_count g q (record { sources = es ++ one new; lines = (node_at g q).lines; sinks = (node_at g q).sinks }) refl, total-same bare_count g q (record { sources = es ++ one new; lines = (node_at g q).lines; sinks = (node_at g q).sinks }) (bares-more es new i refl))
+    h_room : total sink_count h + total bare_count h ≤ m
+    h_room = omega (arith, a.room, total-same sink_count g q (record { sources = es ++ one new; lines = (node_at g q).lines; sinks = (node_at g q).sinks }) refl, total-same bare_count g q (record { sources = es ++ one new; lines = (node_at g q).lines; sinks = (node_at g q).sinks }) (bares-more es new i refl))
 
     gains_source : Roomed (gain_source g p i q)
     gains_source =
         record {
           good = gain_source_good n g p i q l q-in s a.good;
-          paired = pick Paired (has_marked es p i) g h a.paired h-paired;
+          paired = pick Paired (has_marked es p i) g h a.paired h_paired;
           front = pick (λ u. (r k x : ℕ) → SinkAt g₀ r k x → SinkAt u r k x) (has_marked es p i) g h a.front (λ r k x t. moved g p i q s a.good.marks r k x (a.front r k x t));
-          room = pick (λ u. total sink_count u + total bare_count u ≤ m) (has_marked es p i) g h a.room h-room;
+          room = pick (λ u. total sink_count u + total bare_count u ≤ m) (has_marked es p i) g h a.room h_room;
         }
 
     -- at most one more, and none for a sink that was gained
-    gains-count : total source_count (gain_source g p i q) + due p (suc i) ≤ total source_count g + due p i
-    gains-count =
+    gains_count : total source_count (gain_source g p i q) + due p (suc i) ≤ total source_count g + due p i
+    gains_count =
         pick-by (λ u. total source_count u + due p (suc i) ≤ total source_count g + due p i) (has_marked es p i) g h (λ z. omega (arith, inner-less n (node_at g₀ p).sinks i))
         (λ z.
         let few : i < d₀ p = below z (ltb i (d₀ p)) refl in
@@ -225,15 +225,15 @@ module _ (n m : ℕ) (g₀ : Graph) where
     to_is : (get_or (node_at g p).sources j no_edge).to ≡ q₁
     to_is = ap (λ (x : Edge). x.to) s.is
 
-    unmarked-by : (m : Option ℕ) → (get_or (node_at g p).sources j no_edge).mark ≡ m → m ≡ none
-    unmarked-by none z = refl
-    unmarked-by (some i) z =
+    unmarked_by : (m : Option ℕ) → (get_or (node_at g p).sources j no_edge).mark ≡ m → m ≡ none
+    unmarked_by none z = refl
+    unmarked_by (some i) z =
         let t : SinkAt g (get_or (node_at g p).sources j no_edge).to i p = all_in (Names g p) (node_at g p).sources j no_edge s.inside (a.good.marks p) i z in
         let u : SinkAt g q₁ i p = subst (λ (k : ℕ). SinkAt g k i p) to_is t in
         false_true (sym lack ∙ leads-at ys i p u.inside u.leads)
 
-    bare-j : (get_or xs j no_edge).mark ≡ none
-    bare-j = ap (λ (es : List Edge). (get_or es j no_edge).mark) (same p) ∙ unmarked-by (get_or (node_at g p).sources j no_edge).mark refl
+    bare_j : (get_or xs j no_edge).mark ≡ none
+    bare_j = ap (λ (es : List Edge). (get_or es j no_edge).mark) (same p) ∙ unmarked_by (get_or (node_at g p).sources j no_edge).mark refl
 
     j_in : j < length xs
     j_in = rw (same p) s.inside
@@ -241,8 +241,8 @@ module _ (n m : ℕ) (g₀ : Graph) where
     p_in : p < length h₁
     p_in = rw (length-set g q₁ (record { sources = (node_at g q₁).sources; lines = (node_at g q₁).lines; sinks = ys ++ one sink })) (rw a.good.long l)
 
-    k-room : total sink_count k₁ + total bare_count k₁ ≤ m
-    k-room =
+    k_room : total sink_count k₁ + total bare_count k₁ ≤ m
+    k_room =
         let x : Node = record { sources = (node_at g q₁).sources; lines = (node_at g q₁).lines; sinks = ys ++ one sink } in
         let y : Node = record { sources = set xs j (marked (length ys) e); lines = (node_at h₁ p).lines; sinks = (node_at h₁ p).sinks } in
         omega (
@@ -253,7 +253,7 @@ module _ (n m : ℕ) (g₀ : Graph) where
           total-same bare_count g q₁ x refl,
           total-same sink_count h₁ p y refl,
           total-set bare_count h₁ p y p_in,
-          bares-set xs j (marked (length ys) e) (length ys) j_in bare-j refl,
+          bares-set xs j (marked (length ys) e) (length ys) j_in bare_j refl,
         )
 
     -- a sink of k₁ is one of g, or the new one
@@ -270,50 +270,50 @@ module _ (n m : ℕ) (g₀ : Graph) where
         let k : i ≡ length ys = omega (arith, t, length-append ys (one sink), ltb-false i (length ys) w) in
         inr (z, k, sym u ∙ ap (λ (o : ℕ). (get_or (ys ++ one sink) o no_edge).to) k ∙ ap (λ (y : Edge). y.to) (get_or-append_seam ys sink [] no_edge))
 
-    k-sinks : (r : ℕ) → (node_at k₁ r).sinks ≡ (node_at h₁ r).sinks
-    k-sinks r = sinks-at h₁ k₁ (map-set_same (λ (y : Node). y.sinks) h₁ p _ bare refl) r
+    k_sinks : (r : ℕ) → (node_at k₁ r).sinks ≡ (node_at h₁ r).sinks
+    k_sinks r = sinks-at h₁ k₁ (map-set_same (λ (y : Node). y.sinks) h₁ p _ bare refl) r
 
     old : (r i x : ℕ) → SinkAt k₁ r i x → Old r i x
     old r i x t =
         node-set (λ (y : Node). i < length y.sinks → (get_or y.sinks i no_edge).to ≡ x → Old r i x) g q₁ _ r
         (λ z u v. new_or_old r i x z u v (ltb i (length ys)) refl)
         (λ u v. inl (record { inside = u; leads = v }))
-        (rw (k-sinks r) at t.inside) (rw (k-sinks r) at t.leads)
+        (rw (k_sinks r) at t.inside) (rw (k_sinks r) at t.leads)
 
-    kept-mark : (r i x : ℕ) → has_marked (node_at g x).sources r i ≡ true → has_marked (node_at k₁ x).sources r i ≡ true
-    kept-mark r i x w =
+    kept_mark : (r i x : ℕ) → has_marked (node_at g x).sources r i ≡ true → has_marked (node_at k₁ x).sources r i ≡ true
+    kept_mark r i x w =
         let v : has_marked (node_at h₁ x).sources r i ≡ true = rw (same x) w in
         node-set (λ (y : Node). has_marked y.sources r i ≡ true) h₁ p _ x
-        (λ z. marked-set xs j (marked (length ys) e) r i bare-j (subst (λ (o : ℕ). has_marked (node_at h₁ o).sources r i ≡ true) z v)) v
+        (λ z. marked-set xs j (marked (length ys) e) r i bare_j (subst (λ (o : ℕ). has_marked (node_at h₁ o).sources r i ≡ true) z v)) v
 
-    new-mark : has_marked (node_at k₁ p).sources q₁ (length ys) ≡ true
-    new-mark =
+    new_mark : has_marked (node_at k₁ p).sources q₁ (length ys) ≡ true
+    new_mark =
         let y : Node = record { sources = set xs j (marked (length ys) e); lines = (node_at h₁ p).lines; sinks = (node_at h₁ p).sinks } in
         ap (λ (o : Node). has_marked o.sources q₁ (length ys)) (node-same h₁ p y p_in) ∙ marked-new xs j (marked (length ys) e) q₁ (length ys) j_in refl refl
 
-    k-paired : Paired k₁
-    k-paired r i x o t =
-        ⊎_elim (λ u. kept-mark r i x (a.paired r i x o u))
+    k_paired : Paired k₁
+    k_paired r i x o t =
+        ⊎_elim (λ u. kept_mark r i x (a.paired r i x o u))
         (λ u.
         subst (λ (c : ℕ). has_marked (node_at k₁ x).sources c i ≡ true) (sym u.0)
         (subst (λ (c : ℕ). has_marked (node_at k₁ x).sources q₁ c ≡ true) (sym u.1)
-        (subst (λ (c : ℕ). has_marked (node_at k₁ c).sources q₁ (length ys) ≡ true) (sym u.2) new-mark)))
+        (subst (λ (c : ℕ). has_marked (node_at k₁ c).sources q₁ (length ys) ≡ true) (sym u.2) new_mark)))
         (old r i x t)
 
-  gains-sink : (g : Graph) (p j : ℕ) (e : Edge) → p < n → e.to < length g → SourceAt g p j e → Roomed g → Roomed (gain_sink g p j e)
-  gains-sink g p j e l q-in s a =
+  gains_sink : (g : Graph) (p j : ℕ) (e : Edge) → p < n → e.to < length g → SourceAt g p j e → Roomed g → Roomed (gain_sink g p j e)
+  gains_sink g p j e l q-in s a =
       pick-by Roomed (leads_to (node_at g e.to).sinks p) g (k₂ n g p j e l q-in s a.good) (λ z. a)
       (λ z.
       record {
         good = rw z at (gain-sink-good n g p j e l q-in s a.good);
-        paired = k-paired g p j e l q-in s a z;
+        paired = k_paired g p j e l q-in s a z;
         front = λ r i x t. both n g p j e l q-in s a.good r i x (a.front r i x t);
-        room = k-room g p j e l q-in s a z;
+        room = k_room g p j e l q-in s a z;
       })
 
   -- ---- the sinks of p, and then its sources
-  sources-kept : (g u : Graph) → sources_in u ≡ sources_in g → total source_count u ≡ total source_count g
-  sources-kept g u e = sum_of u ∙ ap (λ (l : List (List Edge)). sum (map (λ (es : List Edge). length es) l)) e ∙ sym (sum_of g)
+  sources_kept : (g u : Graph) → sources_in u ≡ sources_in g → total source_count u ≡ total source_count g
+  sources_kept g u e = sum_of u ∙ ap (λ (l : List (List Edge)). sum (map (λ (es : List Edge). length es) l)) e ∙ sym (sum_of g)
     where
       sum_of : (v : Graph) → total source_count v ≡ sum (map (λ (es : List Edge). length es) (sources_in v))
       sum_of [] = refl
@@ -324,12 +324,12 @@ module _ (n m : ℕ) (g₀ : Graph) where
     pub roomed : Roomed g
     pub count : total source_count g ≡ c
 
-  same-sink : (c : ℕ) (g : Graph) (p j : ℕ) (e : Edge) → p < n → e.to < length g → SourceAt g p j e → Same c g → Same c (gain_sink g p j e)
-  same-sink c g p j e l q-in s a = record { roomed = gains-sink g p j e l q-in s a.roomed; count = sources-kept g (gain_sink g p j e) (gain-sink-sources g p j e s.is) ∙ a.count }
+  same_sink : (c : ℕ) (g : Graph) (p j : ℕ) (e : Edge) → p < n → e.to < length g → SourceAt g p j e → Same c g → Same c (gain_sink g p j e)
+  same_sink c g p j e l q-in s a = record { roomed = gains_sink g p j e l q-in s a.roomed; count = sources_kept g (gain_sink g p j e) (gain-sink-sources g p j e s.is) ∙ a.count }
 
-  sinks-room : (es : List Edge) (g : Graph) (p i : ℕ) → p < n → drop i (node_at g p).sinks ≡ es → Roomed g → Roomed (complete_sinks g p i es) × (total source_count (complete_sinks g p i es) ≤ total source_count g + due p i)
-  sinks-room [] g p i l e a = (a, omega arith)
-  sinks-room (x ∷ es) g p i l e a =
+  sinks_room : (es : List Edge) (g : Graph) (p i : ℕ) → p < n → drop i (node_at g p).sinks ≡ es → Roomed g → Roomed (complete_sinks g p i es) × (total source_count (complete_sinks g p i es) ≤ total source_count g + due p i)
+  sinks_room [] g p i l e a = (a, omega arith)
+  sinks_room (x ∷ es) g p i l e a =
       let f = drop_head (node_at g p).sinks i x es no_edge e in
       let at : SinkAt g p i x.to = record { inside = f.0; leads = ap (λ (y : Edge). y.to) f.1 } in
       let v : Graph = gain_source g p i x.to in
@@ -338,16 +338,16 @@ module _ (n m : ℕ) (g₀ : Graph) where
       let same : sinks_in u ≡ sinks_in g = pick (λ k. sinks_in k ≡ sinks_in g) b v g (gain_source_sinks g p i x.to) refl in
       let roomed : Roomed u = pick-by Roomed b v g (λ z. gains_source g p i x.to l (ltb-true x.to (length g) z) at a) (λ z. a) in
       let count : total source_count u + due p (suc i) ≤ total source_count g + due p i =
-      pick-by (λ k. total source_count k + due p (suc i) ≤ total source_count g + due p i) b v g (λ z. gains-count g p i x.to l (ltb-true x.to (length g) z) at a) (λ z. omega (arith, inner-less n (node_at g₀ p).sinks i)) in
-      let r = sinks-room es u p (suc i) l (ap (drop (suc i)) (sinks-at g u same p) ∙ f.2) roomed in
+      pick-by (λ k. total source_count k + due p (suc i) ≤ total source_count g + due p i) b v g (λ z. gains_count g p i x.to l (ltb-true x.to (length g) z) at a) (λ z. omega (arith, inner-less n (node_at g₀ p).sinks i)) in
+      let r = sinks_room es u p (suc i) l (ap (drop (suc i)) (sinks-at g u same p) ∙ f.2) roomed in
       (r.0, omega (arith, r.1, count))
 
-  node-room : (g : Graph) (p : ℕ) → p < n → Roomed g → Roomed (complete_node g p) × (total source_count (complete_node g p) ≤ total source_count g + due p 0)
-  node-room g p l a =
+  node_room : (g : Graph) (p : ℕ) → p < n → Roomed g → Roomed (complete_node g p) × (total source_count (complete_node g p) ≤ total source_count g + due p 0)
+  node_room g p l a =
       let u : Graph = complete_sinks g p 0 (node_at g p).sinks in
-      let r = sinks-room (node_at g p).sinks g p 0 l refl a in
+      let r = sinks_room (node_at g p).sinks g p 0 l refl a in
       let k : Same (total source_count u) (complete_node g p) =
-      sources_hold n (Same (total source_count u)) (same-sink (total source_count u)) (node_at u p).sources u p 0 l refl (record { roomed = r.0; count = refl }) in
+      sources_hold n (Same (total source_count u)) (same_sink (total source_count u)) (node_at u p).sources u p 0 l refl (record { roomed = r.0; count = refl }) in
       (k.roomed, omega (arith, k.count, r.1))
 
 bares_le : (g : Graph) → total bare_count g ≤ total source_count g
@@ -404,12 +404,12 @@ module _ (g : Graph) (m : ℕ) (good : Good (length g) g) (few : ends (λ (x : N
     pub roomed : Roomed (length g) m g u
     pub count : total source_count u + given-from (length g) g p + outer ≤ m
 
-  all-nodes : Before (length g) (complete g)
+  all_nodes : Before (length g) (complete g)
   unfolding complete
-  all-nodes =
+  all_nodes =
       each_holds Before (λ p u. complete_node u p) (length g)
       (λ p u l b.
-      let r = node-room (length g) m g u p l b.roomed in
+      let r = node_room (length g) m g u p l b.roomed in
       record { roomed = r.0; count = omega (arith, r.1, b.count, given-next (length g) g p l) })
       g
       (record {
@@ -419,16 +419,16 @@ module _ (g : Graph) (m : ℕ) (good : Good (length g) g) (few : ends (λ (x : N
       (length g) (omega arith)
 
   -- the sources, with one for each sink that leads to nothing
-  pub few-sources : ends (λ (x : Node). x.sources) (complete g) + outer ≤ m
-  few-sources = omega (arith, all-nodes.count, ends-total (λ (x : Node). x.sources) (complete g))
+  pub few_sources : ends (λ (x : Node). x.sources) (complete g) + outer ≤ m
+  few_sources = omega (arith, all_nodes.count, ends-total (λ (x : Node). x.sources) (complete g))
 
   -- the sinks, with one for each source that leads to nothing
-  pub few-sinks : ends (λ (x : Node). x.sinks) (complete g) + outers (λ (x : Node). x.sources) (length g) (complete g) ≤ m
-  few-sinks =
+  pub few_sinks : ends (λ (x : Node). x.sinks) (complete g) + outers (λ (x : Node). x.sources) (length g) (complete g) ≤ m
+  few_sinks =
       let u : Graph = complete g in
       let b : outers (λ (x : Node). x.sources) (length g) u ≤ total bare_count u =
-      all-leads-bare (length g) u (λ p. all_map (λ e k h. bare-lead u p e k (rw all-nodes.roomed.good.long h)) (node_at u p).sources (all-nodes.roomed.good.marks p)) in
-      omega (arith, b, all-nodes.roomed.room, ends-total (λ (x : Node). x.sinks) u)
+      all-leads-bare (length g) u (λ p. all_map (λ e k h. bare-lead u p e k (rw all_nodes.roomed.good.long h)) (node_at u p).sources (all_nodes.roomed.good.marks p)) in
+      omega (arith, b, all_nodes.roomed.room, ends-total (λ (x : Node). x.sinks) u)
 
 -- ---- completion neither takes nor adds a lead to nothing
 module _ (n : ℕ) where
@@ -465,8 +465,8 @@ module _ (n : ℕ) where
         sources = outers-total (λ (x : Node). x.sources) n v ∙ total-same (λ (x : Node). outside n x.sources) u q y (outside-one es new l) ∙ sym (outers-total (λ (x : Node). x.sources) n u) ∙ a.sources;
       })
 
-  leads-sink : (g u : Graph) (p j : ℕ) (e : Edge) → p < n → e.to < length u → SourceAt u p j e → SameLeads g u → SameLeads g (gain_sink u p j e)
-  leads-sink g u p j e l t s a =
+  leads_sink : (g u : Graph) (p j : ℕ) (e : Edge) → p < n → e.to < length u → SourceAt u p j e → SameLeads g u → SameLeads g (gain_sink u p j e)
+  leads_sink g u p j e l t s a =
       let es : List Edge = (node_at u e.to).sinks in
       let new : Edge = record { to = p; mark = none; text = no_text } in
       let y : Node = record { sources = (node_at u e.to).sources; lines = (node_at u e.to).lines; sinks = es ++ one new } in
@@ -484,8 +484,8 @@ module _ (n : ℕ) where
             ∙ sym (outers-of-sources u) ∙ a.sources;
       }
 
-  pub complete-leads : (g : Graph) → length g ≡ n → SameLeads g (complete g)
-  complete-leads g e = complete-holds n (SameLeads g) (leads_source g) (leads-sink g) g e (record { sinks = refl; sources = refl })
+  pub complete_leads : (g : Graph) → length g ≡ n → SameLeads g (complete g)
+  complete_leads g e = complete-holds n (SameLeads g) (leads_source g) (leads_sink g) g e (record { sinks = refl; sources = refl })
 
 -- ---- a cut adds a source and a sink
 cut-total : (f : Node → ℕ) (g : Graph) (c s : ℕ) (e : Edge) → ((x : Node) (es : List Edge) → length es ≡ length x.sinks → f (record { sources = x.sources; lines = x.lines; sinks = es }) ≡ f x) →
@@ -509,7 +509,7 @@ cut-total f g c s e h k =
 pub cutting-ends : (g : Graph) → (ends (λ (x : Node). x.sources) (cutting g).graph ≡ ends (λ (x : Node). x.sources) g + (cutting g).cuts) × (ends (λ (x : Node). x.sinks) (cutting g).graph ≡ ends (λ (x : Node). x.sinks) g + (cutting g).cuts)
 cutting-ends g =
     let r =
-    (cutting-keeps (length g) (reached g) (λ w. (total source_count w.graph ≡ total source_count g + w.cuts) × (total sink_count w.graph ≡ total sink_count g + w.cuts)) (λ w c x h. h)
+    (cutting_keeps (length g) (reached g) (λ w. (total source_count w.graph ≡ total source_count g + w.cuts) × (total sink_count w.graph ≡ total sink_count g + w.cuts)) (λ w c x h. h)
     (λ w c s hc hs hq lo bz fr h.
     let e : Edge = get_or (node_at w.graph c).sinks s no_edge in (
       omega (arith, h.0, cut-total source_count w.graph c s e (λ x es z. refl) (λ x es z. z)),

@@ -52,10 +52,10 @@ doing_first t c lx ly =
                 record {
                   nodes = omega (arith, c.nodes);
                   source_room = omega (arith, c.room);
-                  sink-room = omega (arith, c.room);
+                  sink_room = omega (arith, c.room);
                   source_owners = c.source_owners;
-                  sink-owners = c.sink-owners;
-                  line-owners = c.line-owners;
+                  sink_owners = c.sink_owners;
+                  line_owners = c.line_owners;
                 };
             sinked = sinked-bare ys xs c.bare;
             paired = λ k a b. absurd (omega (arith, sy, a, b));
@@ -80,7 +80,7 @@ module _ (g : ℕ) (t s : Tables) (p : ℕ) (d : Doing g t s p) where
         graph = d.rest ∙ ap (each (graph_of t) (λ q u. complete_node u q)) z ∙ done t;
         same = d.same;
         source_count_lem = omega (arith, d.room);
-        sink-count = omega (arith, d.fit.room);
+        sink_count = omega (arith, d.fit.room);
         standing = record { owned = d.fit.linked; blank = λ k a b. rw (d.same.names, d.names) (get_or-replicate 48 k 512 0 b) };
       }
 

@@ -120,17 +120,17 @@ module _ (t : Tables) (b : Owned t) (p j k : ℕ) (f : Sunk (items_of t.sources)
       record {
         nodes = b.nodes;
         source_room = omega (arith, b.source_room);
-        sink-room = omega arith;
+        sink_room = omega arith;
         source_owners = rw hy.0 (below_set t.n xs k (mark_item (m + 1) xk) owner_in_lem b.source_owners);
-        sink-owners = rw hz' (below_one t.n t.n ys (sink_of p xk.to) (omega arith) to_in b.sink-owners);
-        line-owners = b.line-owners;
+        sink_owners = rw hz' (below_one t.n t.n ys (sink_of p xk.to) (omega arith) to_in b.sink_owners);
+        line_owners = b.line_owners;
       } in
       record {
         graph = rw (test_is true (lt-ltb q.to t.n hq)) (rw (hy.0, hz.0, em, ← e) (sym (gains t.n (lines_of t) (items_of t.sources) (items_of t.sinks) p j k f hp to_in lacks)));
         linked = after;
         same = record { nodes = refl; cuts = refl; names = refl; lines = refl };
         source_count_lem = hy.1;
-        sink-count = omega arith;
+        sink_count = omega arith;
         m = m + 1;
         marks = hy.0;
         fits = λ g f'.
@@ -157,7 +157,7 @@ module _ (t : Tables) (b : Owned t) (p j k : ℕ) (f : Sunk (items_of t.sources)
         linked = b;
         same = same_refl t;
         source_count_lem = refl;
-        sink-count = omega arith;
+        sink_count = omega arith;
         m = xk.mark;
         marks = sym (set-get_or (items_of t.sources) k no_item);
         fits = λ g f'. (f', refl);
@@ -170,7 +170,7 @@ module _ (t : Tables) (b : Owned t) (p j k : ℕ) (f : Sunk (items_of t.sources)
         linked = b;
         same = same_refl t;
         source_count_lem = refl;
-        sink-count = omega arith;
+        sink_count = omega arith;
         m = xk.mark;
         marks = sym (set-get_or (items_of t.sources) k no_item);
         fits = λ g f'. (f', refl);
@@ -197,15 +197,15 @@ module _ (g : ℕ) (t : Tables) (long : length t.sources.items ≡ 88) (fits : t
   abbrev ss : List Item
   ss = items_of s.sources
 
-  long-is : length ts ≡ t.sources.count
-  long-is = table-size t.sources long fits
+  long_is : length ts ≡ t.sources.count
+  long_is = table-size t.sources long fits
 
   pub right_end : t.sources.count ≤ k → graph_of s ≡ complete_sources (graph_of t) p 0 (owned p ts)
-  right_end h = rw (owned-end p k ts (omega (arith, long-is))) at l.rest
+  right_end h = rw (owned-end p k ts (omega (arith, long_is))) at l.rest
 
   module _ (h : k < t.sources.count) where
     in_given : k < length ts
-    in_given = omega (arith, long-is)
+    in_given = omega (arith, long_is)
 
     in_list : k < length ss
     in_list = omega (arith, in_given, l.size)
@@ -238,11 +238,11 @@ module _ (g : ℕ) (t : Tables) (long : length t.sources.items ≡ 88) (fits : t
         }
 
     module _ (o : (get_or t.sources.items k no_item).owner ≡ p) where
-      given-own : (get_or ts k no_item).owner ≡ p
-      given-own = rw here o
+      given_own : (get_or ts k no_item).owner ≡ p
+      given_own = rw here o
 
       own : (get_or ss k no_item).owner ≡ p
-      own = rw still given-own
+      own = rw still given_own
 
       pub right-sunk : Sunk ss p j k
       right-sunk = record { inside = in_list; owner = own; number = l.number }
@@ -267,5 +267,5 @@ module _ (g : ℕ) (t : Tables) (long : length t.sources.items ≡ 88) (fits : t
                 counted-own rs p k (omega (arith, in_list)) (ap (λ (x : Item). x.owner) at ∙ own)
                 ∙ ap (λ (xs : List Item). length (owned p xs) + 1) front ∙ ap (λ (m : ℕ). m + 1) l.number;
             less = omega (arith, l.less);
-            rest = rw (add-one j, add-one k, h'.graph, still) (rw (owned-own p k ts in_given given-own) at l.rest);
+            rest = rw (add-one j, add-one k, h'.graph, still) (rw (owned-own p k ts in_given given_own) at l.rest);
           }

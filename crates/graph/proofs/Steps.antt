@@ -37,11 +37,11 @@ module _ (t : Tables) (b : Linked t) (full : length t.sinks.items ≡ 88) where
 
   size : length xs ≡ t.sinks.count
   unfolding xs
-  size = length-take-le t.sinks.count t.sinks.items (omega (arith, b.sink-room))
+  size = length-take-le t.sinks.count t.sinks.items (omega (arith, b.sink_room))
 
   sink-to : (k : ℕ) → k < t.sinks.count → (item_at t k).to < t.n
   unfolding xs
-  sink-to k h = rw (table_at t.sinks full b.sink-room k h) at (aimed-at t.n xs k b.sink-aims (omega (arith, size)))
+  sink-to k h = rw (table_at t.sinks full b.sink_room k h) at (aimed-at t.n xs k b.sink_aims (omega (arith, size)))
 
   mark-unseen : (v : List ℕ) (d q : ℕ) → q < t.n → get_or v q 3 ≡ 0 → mark_from (suc d) (graph_of t) v q ≡ mark_sinks (mark_from d (graph_of t)) (set v q 1) (owned q xs)
   unfolding xs
@@ -126,7 +126,7 @@ module _ (t : Tables) (b : Linked t) (full : length t.sinks.items ≡ 88) where
           record {
             good = record { all = all; most = simp length-set most; room = g };
             same = rw stack_on (sym (same (t.n - suc d)));
-            less = omega (arith, ap looks stack_on, b.sink-room);
+            less = omega (arith, ap looks stack_on, b.sink_room);
           }
 
       abbrev q : ℕ
@@ -150,7 +150,7 @@ module _ (t : Tables) (b : Linked t) (full : length t.sinks.items ≡ 88) where
             same =
                 rw (i, add-one (suc d), k)
                 (sym (ap (λ (m : ℕ). resume m t v (x ∷ stack_of no_frame fs d)) (omega arith) ∙ resume-push v x (stack_of no_frame fs d) h (t.n - suc (suc d)) l o u));
-            less = rw (i, add-one (suc d)) (omega (arith, ap looks k, b.sink-room));
+            less = rw (i, add-one (suc d)) (omega (arith, ap looks k, b.sink_room));
           }
 
   -- the same of a state, as the code has it

@@ -142,17 +142,17 @@ module _ (w : Setting) (s : List ℕ) (d : Dag) (l : Tabled w s d) where
   abbrev t : Tables
   t = tables_of d
 
-  few-sources : length (sources_from 0 g) ≤ 88
-  few-sources = omega (arith, flat-long (λ (x : Node). x.sources) 0 g, l.sources)
+  few_sources : length (sources_from 0 g) ≤ 88
+  few_sources = omega (arith, flat-long (λ (x : Node). x.sources) 0 g, l.sources)
 
-  few-sinks : length (sinks_from 0 g) ≤ 88
-  few-sinks = omega (arith, flat-long (λ (x : Node). x.sinks) 0 g, l.sinks)
+  few_sinks : length (sinks_from 0 g) ≤ 88
+  few_sinks = omega (arith, flat-long (λ (x : Node). x.sinks) 0 g, l.sinks)
 
   sources-are : items_of t.sources ≡ sources_from 0 g
-  sources-are = table-back (sources_from 0 g) few-sources
+  sources-are = table-back (sources_from 0 g) few_sources
 
   sinks-are : items_of t.sinks ≡ sinks_from 0 g
-  sinks-are = table-back (sinks_from 0 g) few-sinks
+  sinks-are = table-back (sinks_from 0 g) few_sinks
 
   texts-are : texts_of t.lines ≡ texts_from 0 g
   texts-are = take-padded 128 no_line (texts_from 0 g) l.texts
@@ -194,13 +194,13 @@ module _ (w : Setting) (s : List ℕ) (d : Dag) (l : Tabled w s d) where
       let n : ℕ = length g in
       record {
         nodes = l.boxes;
-        source_room = few-sources;
-        sink-room = few-sinks;
+        source_room = few_sources;
+        sink_room = few_sinks;
         source_owners = rw sources-are (all-flat item_of (λ (x : Node). x.sources) n (λ (e : Edge). e.to < n) (λ (x : Item). x.owner < n) (λ p e i k. i) 0 g (omega arith) (all_map (λ x a. a.sources) g l.aimed));
-        sink-owners = rw sinks-are (all-flat item_of (λ (x : Node). x.sinks) n (λ (e : Edge). e.to < n) (λ (x : Item). x.owner < n) (λ p e i k. i) 0 g (omega arith) (all_map (λ x a. a.sinks) g l.aimed));
+        sink_owners = rw sinks-are (all-flat item_of (λ (x : Node). x.sinks) n (λ (e : Edge). e.to < n) (λ (x : Item). x.owner < n) (λ p e i k. i) 0 g (omega arith) (all_map (λ x a. a.sinks) g l.aimed));
         source_aims = rw sources-are (all-flat item_of (λ (x : Node). x.sources) n (λ (e : Edge). e.to < n) (λ (x : Item). x.to < n) (λ p e i k. k) 0 g (omega arith) (all_map (λ x a. a.sources) g l.aimed));
-        sink-aims = rw sinks-are (all-flat item_of (λ (x : Node). x.sinks) n (λ (e : Edge). e.to < n) (λ (x : Item). x.to < n) (λ p e i k. k) 0 g (omega arith) (all_map (λ x a. a.sinks) g l.aimed));
-        line-owners = rw texts-are (all-flat line_of (λ (x : Node). texts_in x.lines) n Low (λ (x : LineItem). x.owner < n) (λ p e i k. i) 0 g (omega arith) lows);
+        sink_aims = rw sinks-are (all-flat item_of (λ (x : Node). x.sinks) n (λ (e : Edge). e.to < n) (λ (x : Item). x.to < n) (λ p e i k. k) 0 g (omega arith) (all_map (λ x a. a.sinks) g l.aimed));
+        line_owners = rw texts-are (all-flat line_of (λ (x : Node). texts_in x.lines) n Low (λ (x : LineItem). x.owner < n) (λ p e i k. i) 0 g (omega arith) lows);
       }
 
   fitting : IsAnswer (ready d) (outcome_of (ready d))

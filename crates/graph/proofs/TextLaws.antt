@@ -16,7 +16,7 @@ use Rattle.graph.specs.Graph.{Edge, Node, Graph, no_text, no_edge, bare, node_at
 use Rattle.graph.specs.Completion.{gain_source, marked, gain_sink, complete}
 use Rattle.graph.specs.Cutting.{turned, pointed, cut_graph, reached, cutting}
 use Rattle.graph.specs.Laws.{SinkAt, texts_at, Begins, Texts}
-use Rattle.graph.proofs.Keeps.{cutting-keeps}
+use Rattle.graph.proofs.Keeps.{cutting_keeps}
 use Rattle.graph.proofs.Completes.{SourceAt, complete-holds}
 use Rattle.graph.proofs.MarkLaws.{node-set}
 
@@ -129,5 +129,5 @@ cut-texts g₀ g c s p l t =
 
 pub cutting-texts : (g₀ g : Graph) (n : ℕ) → n ≤ length g → ((p : ℕ) → p < n → Texts g₀ g p) → (p : ℕ) → p < n → Texts g₀ (cutting g).graph p
 cutting-texts g₀ g n small k =
-    (cutting-keeps (length g) (reached g) (λ w. (p : ℕ) → p < n → Texts g₀ w.graph p) (λ w c x h. h)
+    (cutting_keeps (length g) (reached g) (λ w. (p : ℕ) → p < n → Texts g₀ w.graph p) (λ w c x h. h)
     (λ w c s hc hs hq lo bz fr h p l. cut-texts g₀ w.graph c s p (omega arith) (h p l)) g refl refl k).keeps

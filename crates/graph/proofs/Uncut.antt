@@ -21,13 +21,13 @@ use Rattle.graph.specs.Cutting.{turned, pointed, first_node, second_node, cut_gr
 use Rattle.graph.specs.Joining.{leads, leads_of, joined, uncut}
 use Rattle.graph.specs.Laws.{Aimed, SinkAt, Names, Marked, Begins, Texts, Unmarked, ends, Named, SourceTo, OfSink, OfSource, BoxOf, OwnBox}
 use Rattle.graph.specs.Outcome.{texts_in}
-use Rattle.graph.proofs.Keeps.{cutting-keeps}
+use Rattle.graph.proofs.Keeps.{cutting_keeps}
 use Rattle.graph.proofs.Completes.{SourceAt, complete-holds}
 use Rattle.graph.proofs.LineLaws.{lines_in, complete-lines, complete-length, Closed, Idle, paired_at, Lined, cutting_lined, cutting-kept, given_lines, completed-length, given-lines}
 use Rattle.graph.proofs.AimLaws.{all_set, all-at, all_in, complete-aims}
 use Rattle.graph.proofs.MarkLaws.{Good, complete-good}
 use Rattle.graph.proofs.TextLaws.{complete-texts}
-use Rattle.graph.proofs.RoomLaws.{few-sources, few-sinks, complete-leads}
+use Rattle.graph.proofs.RoomLaws.{few_sources, few_sinks, complete_leads}
 use Rattle.graph.proofs.Joins.{boxes_from, joined-long}
 use Rattle.graph.proofs.JoinLaws.{Off, OffIn, boxes-off_in, joined-aims, joined-none, joined-texts, joined-boxes, own-sink, own_source, joined-marks, joined-closed, joined-lines, boxes-off, joined-unmarked, outers, leads-all, joined-sources, joined-sinks}
 use Rattle.graph.proofs.Orders.{Textless}
@@ -132,7 +132,7 @@ module _ (ps : Board) where
 
   -- as many leads as were given
   same-outers : (outers (λ (x : Node). x.sinks) (length w) w ≡ outers (λ (x : Node). x.sinks) (length g₀) g₀) × (outers (λ (x : Node). x.sources) (length w) w ≡ outers (λ (x : Node). x.sources) (length g₀) g₀)
-  same-outers = let a = complete-leads (length g₀) g₀ refl in rw (complete-length g₀) (a.sinks, a.sources)
+  same-outers = let a = complete_leads (length g₀) g₀ refl in rw (complete-length g₀) (a.sinks, a.sources)
 
   pub same-leads : leads (length w) w ≡ leads_of ps
   same-leads = omega (arith, leads-all (length w) w, leads-all (length g₀) g₀, same-outers.0, same-outers.1) ∙ ap (λ (k : ℕ). leads k g₀) given-long
@@ -159,12 +159,12 @@ module _ (ps : Board) where
     given-few = omega (arith, given-ends ps)
 
     pub uncut-sources : ends (λ (x : Node). x.sources) (uncut ps) ≤ m
-    uncut-sources = rw uncut-is (omega (arith, joined-sources w, few-sources g₀ m given-good given-few, same-outers.0))
+    uncut-sources = rw uncut-is (omega (arith, joined-sources w, few_sources g₀ m given-good given-few, same-outers.0))
 
     pub uncut-sinks : ends (λ (x : Node). x.sinks) (uncut ps) ≤ m
     uncut-sinks =
         let a : outers (λ (x : Node). x.sources) (length g₀) w ≡ outers (λ (x : Node). x.sources) (length w) w = ap (λ (k : ℕ). outers (λ (x : Node). x.sources) k w) (sym (complete-length g₀)) in
-        rw uncut-is (omega (arith, joined-sinks w, few-sinks g₀ m given-good given-few, a))
+        rw uncut-is (omega (arith, joined-sinks w, few_sinks g₀ m given-good given-few, a))
 
   -- texts and lines
   begins_as : (old new more : List Part) → more ≡ new → Begins old new → Begins old more
@@ -243,7 +243,7 @@ module _ (ps : Board) where
 
   pub cut-plain : Unmarked (cutting (uncut ps)).graph
   cut-plain =
-      (cutting-keeps (length (uncut ps)) (reached (uncut ps)) (λ u. Unmarked u.graph) (λ u c x h. h) (λ u c s hc hs hq lo bz fr h. plain-cut u.graph c s hs h) (uncut ps) refl refl uncut-plain).keeps
+      (cutting_keeps (length (uncut ps)) (reached (uncut ps)) (λ u. Unmarked u.graph) (λ u c x h. h) (λ u c s hc hs hq lo bz fr h. plain-cut u.graph c s hs h) (uncut ps) refl refl uncut-plain).keeps
 
   ls-long : length ls ≡ n
   ls-long = length-map ps (λ (p : GivenNode). map given p.lines)

@@ -123,9 +123,9 @@ pub record Laws (w : Setting) (s : List ℕ) (d : Dag) : Type 0 where
   pub lines : (k : ℕ) → k < length board → (node_at d.graph k).lines ≡ (node_at (given_graph board) k).lines
   pub texts : (k : ℕ) → k < length board → Texts (given_graph board) d.graph k
   -- 'each such sink of a node and then each such source of it gets its own new box joined to it'
-  pub sinks-joined : (p i t : ℕ) → p < length board → SinkAt (complete (given_graph board)) p i t → length board ≤ t →
+  pub sinks_joined : (p i t : ℕ) → p < length board → SinkAt (complete (given_graph board)) p i t → length board ≤ t →
       OwnBox (OfSink (complete (given_graph board)) (uncut board) p i t) (uncut board) (length board) (leads_of board) t
-  pub sources-joined : (p i t : ℕ) → p < length board → SourceTo (complete (given_graph board)) p i t → length board ≤ t →
+  pub sources_joined : (p i t : ℕ) → p < length board → SourceTo (complete (given_graph board)) p i t → length board ≤ t →
       OwnBox (OfSource (complete (given_graph board)) (uncut board) p i t) (uncut board) (length board) (leads_of board) t
   -- and these are all the boxes; no cut changes them
   pub joined : (k : ℕ) → length board ≤ k → k < length board + leads_of board → BoxOf (complete (given_graph board)) (uncut board) (length board) k (node_at (uncut board) k)

@@ -129,7 +129,7 @@ module _ (s : SheetRecord) (a : Apart s) where
     pub named-cell : (k : ℕ) → k < s.count → Named s.boxes k r c → cell_at (cells_in s) r c ≡ k
     named-cell k h q =
         ⊎_elim (λ w. absurd (w.1 k h q))
-        (λ w. a.no-two (cell_at (cells_in s) r c) k w.0 h (w.1.row ∙ sym q.row) (w.1.column ∙ sym q.column)) cell-shows
+        (λ w. a.no_two (cell_at (cells_in s) r c) k w.0 h (w.1.row ∙ sym q.row) (w.1.column ∙ sym q.column)) cell-shows
 
     pub cell-empty : cell_at (cells_in s) r c ≡ 255 → (k : ℕ) → k < s.count → Named s.boxes k r c → ⊥
     cell-empty e = ⊎_elim (λ w. w.1) (λ w. absurd (far (cell_at (cells_in s) r c) a.few w.0 e)) cell-shows

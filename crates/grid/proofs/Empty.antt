@@ -34,11 +34,11 @@ unfolding each shape_of firstColumns heights first_moves fold_from average colum
 without_nodes = refl
 
 -- that sheet, or 14 by the origin
-pub no-box : (w : Setting) (x y : ℕ) → sheeted w [] x y ≡ cond (within x 256 && within y 256) (ready unboxed) (refusal 14 0)
+pub no_box : (w : Setting) (x y : ℕ) → sheeted w [] x y ≡ cond (within x 256 && within y 256) (ready unboxed) (refusal 14 0)
 unfolding sheeted
 no-box w x y = ap (drawn x y) (no_node w) ∙ ap (fitted x y) without_nodes
 
 -- no label is there: 15, after 14
 pub no_label : (w : Setting) (x y k i : ℕ) → labelled w [] x y k i ≡ cond (within x 256 && within y 256) (unlabelled 15 0) (unlabelled 14 0)
 unfolding labelled
-no_label w x y k i = ap (label_on k i) (no-box w x y) ∙ pick-through (label_on k i) (within x 256 && within y 256) (ready unboxed) (refusal 14 0)
+no_label w x y k i = ap (label_on k i) (no_box w x y) ∙ pick-through (label_on k i) (within x 256 && within y 256) (ready unboxed) (refusal 14 0)

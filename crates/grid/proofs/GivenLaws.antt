@@ -123,17 +123,17 @@ module _ (v : Setting) (s : List ℕ) (d : Dag) (laws : Laws v s d) where
     abbrev old : Node
     old = node_at (given_graph ps) k
 
-    sources-kept : length_of new.sources ≡ length_of old.sources
-    sources-kept = length-kept old.sources new.sources (laws.texts k h).sources
+    sources_kept : length_of new.sources ≡ length_of old.sources
+    sources_kept = length-kept old.sources new.sources (laws.texts k h).sources
 
     sinks-kept : length_of new.sinks ≡ length_of old.sinks
     sinks-kept = length-kept old.sinks new.sinks (laws.texts k h).sinks
 
     width-kept : box_width new ≡ box_width old
-    width-kept = by_size (λ a b ls. inner_by a b ls + 256) new old sources-kept sinks-kept (laws.lines k h)
+    width-kept = by_size (λ a b ls. inner_by a b ls + 256) new old sources_kept sinks-kept (laws.lines k h)
 
     height-kept : box_height new ≡ box_height old
-    height-kept = by_size height_by new old sources-kept sinks-kept (laws.lines k h)
+    height-kept = by_size height_by new old sources_kept sinks-kept (laws.lines k h)
 
     labels_kept : labels_for new ≡ labels_for old
     labels_kept =
@@ -183,7 +183,7 @@ module _ (g : Graph) (cuts : ℕ) (cols rows : List ℕ) (wide : length cols ≡
 record Told (d : Dag) (sh : Sheet) : Type 0 where
   columns : sh.columns ≡ suc (largest (map (λ (b : Box). b.column) sh.boxes))
   rows : sh.rows ≡ suc (largest (map (λ (b : Box). b.row) sh.boxes))
-  few-columns : 0 < length d.graph → sh.columns ≤ 3 * length d.graph
+  few_columns : 0 < length d.graph → sh.columns ≤ 3 * length d.graph
   lines : (k : ℕ) → k < length d.graph → lines_in sh k ≡ labels_for (node_at d.graph k)
 
 told : (v : Setting) (s : List ℕ) (d : Dag) → graphed v s ≡ cut d → Told d (sheet_of_dag d)
@@ -199,7 +199,7 @@ told v s d e =
     record {
       columns = ap (λ (l : List ℕ). suc (largest l)) (sym (places-are g d.cuts cs rs wide tall (λ (b : Box). b.column) cs wide (λ k. refl)));
       rows = ap (λ (l : List ℕ). suc (largest l)) (sym (places-are g d.cuts cs rs wide tall (λ (b : Box). b.row) rs tall (λ k. refl)));
-      few-columns = λ h.
+      few_columns = λ h.
           let l : largest cs < 3 * length g = largest-below cs (3 * length g) (omega arith) (λ k i. (placed g first f).below k (omega (arith, wide))) in
           omega arith;
       lines = lines_are g d.cuts cs rs wide tall;
@@ -251,7 +251,7 @@ module _ (v : Setting) (s : List ℕ) (x y : ℕ) (sh : Sheet) (e : sheeted v s 
         boxes = b;
         at_most = omega (arith, b.one_each, laws.boxes);
         sound = ap sound_of is ∙ sheet-sound v s x y sh e;
-        few-columns = λ l. omega (arith, ap (λ (u : SheetRecord). u.columns) is, record_columns sh x y, b.one_each, t.few-columns (omega (arith, b.one_each)));
+        few_columns = λ l. omega (arith, ap (λ (u : SheetRecord). u.columns) is, record_columns sh x y, b.one_each, t.few_columns (omega (arith, b.one_each)));
         columns =
             ap (λ (u : SheetRecord). u.columns) is ∙ record_columns sh x y ∙ t.columns
             ∙ ap (λ (l : List ℕ). suc (largest l)) (sym (map-map (λ (c : BoxRecord). c.column) box_record sh.boxes) ∙ ap (map (λ (c : BoxRecord). c.column)) (sym boxes-same));
@@ -264,8 +264,8 @@ module _ (v : Setting) (s : List ℕ) (x y : ℕ) (sh : Sheet) (e : sheeted v s 
         sheet = sh;
         laid = e;
         is = is;
-        given-width = λ k l. b.widths k (in_count k l) ∙ width-kept v s d.dag laws k l;
-        given-height = λ k l. b.heights k (in_count k l) ∙ height-kept v s d.dag laws k l;
+        given_width = λ k l. b.widths k (in_count k l) ∙ width-kept v s d.dag laws k l;
+        given_height = λ k l. b.heights k (in_count k l) ∙ height-kept v s d.dag laws k l;
         given_labels = λ k l. t.lines k (in_graph k l) ∙ labels_kept v s d.dag laws k l;
         lead_labels = λ k l m.
             let i : k < length d.dag.graph = omega (arith, laws.nodes, leads) in
@@ -273,7 +273,7 @@ module _ (v : Setting) (s : List ℕ) (x y : ℕ) (sh : Sheet) (e : sheeted v s 
             (z.0, z.1, t.lines k i ∙ z.2);
         inserted_labels = λ k l m.
             let i : k < length d.dag.graph = omega (arith, b.one_each) in
-            let z = b.owner-cut k (omega (arith, laws.given)) m in
+            let z = b.owner_cut k (omega (arith, laws.given)) m in
             (omega (arith, laws.given, z.0), t.lines k i ∙ lines-alone v s d.dag laws k (omega arith) i ∙ z.1);
       }
 

@@ -170,8 +170,8 @@ module _ (n leads cuts b : ℕ) (g : Graph) (cols rows : List ℕ) (tall : lengt
         given = omega (arith, size, count);
         boxes = size ∙ count;
         reports = refl;
-        has-cell = λ k h. in_cell k (inside k h);
-        no-two = λ i j c r hi hj y z.
+        has_cell = λ k h. in_cell k (inside k h);
+        no_two = λ i j c r hi hj y z.
             let a = named i (inside i hi) c r y in
             let d = named j (inside j hj) c r z in
             p.apart i j (inside i hi) (inside j hj) (a.1 ∙ sym d.1) (a.0 ∙ sym d.0);

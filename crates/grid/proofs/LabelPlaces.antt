@@ -73,7 +73,7 @@ fits v s x y d c false b e f h =
     let z : ◌≡◌ {A = ℕ} 0 1 = cc in absurd (omega arith)
 
 pub sitting : (v : Setting) (s : List ℕ) (w : Graphing) → Graphs v s w → Seated w.graph
-sitting v s w a = record { linked = a.sound.linked; line-room = a.sound.line-room }
+sitting v s w a = record { linked = a.sound.linked; line_room = a.sound.line_room }
 
 module _ (v : Setting) (s : List ℕ) (x y : ℕ) (o : Outcome) (q : Made v s x y o) (w : Graphing) (a : Graphs v s w) where
   module _ (answered : o.answer ≡ Ready) where
@@ -275,27 +275,27 @@ module _ (v : Setting) (s : List ℕ) where
       (ends-kept (sink_gap n) (first_x (sink_gap n) n.sinks) (output_y n - 48) n.sinks h.sinks)
 
   -- ---- of a given node, and of an inserted one
-  blanks-short : (k : ℕ) → All Short (replicate k no_text)
-  blanks-short zero = tt
-  blanks-short (suc k) = (λ h. absurd (omega arith), blanks-short k)
+  blanks_short : (k : ℕ) → All Short (replicate k no_text)
+  blanks_short zero = tt
+  blanks_short (suc k) = (λ h. absurd (omega arith), blanks_short k)
 
-  begun-short : (old new : List Part) → Begins old new → All Short old → All Short new
-  begun-short old new b a = rw b.texts (all_join Short old (replicate b.blanks no_text) a (blanks-short b.blanks))
+  begun_short : (old new : List Part) → Begins old new → All Short old → All Short new
+  begun_short old new b a = rw b.texts (all_join Short old (replicate b.blanks no_text) a (blanks_short b.blanks))
 
-  none-short : (es : List Edge) → total (map text_length es) ≡ 0 → All Short (texts_at es)
-  none-short [] e = tt
-  none-short (x ∷ es) e = (λ h. absurd (omega (arith, e)), none-short es (omega (arith, e)))
+  none_short : (es : List Edge) → total (map text_length es) ≡ 0 → All Short (texts_at es)
+  none_short [] e = tt
+  none_short (x ∷ es) e = (λ h. absurd (omega (arith, e)), none_short es (omega (arith, e)))
 
-  ends-short : (n : ℕ) (es : List End) → All (Aimed v s n) es → All Short (texts_at (map unmarked es))
-  ends-short n [] a = tt
-  ends-short n (e ∷ es) a = (λ h. fitting-whole s e.text a.0.fits.text, ends-short n es a.1)
+  ends_short : (n : ℕ) (es : List End) → All (Aimed v s n) es → All Short (texts_at (map unmarked es))
+  ends_short n [] a = tt
+  ends_short n (e ∷ es) a = (λ h. fitting-whole s e.text a.0.fits.text, ends_short n es a.1)
 
   given_holds : (n : ℕ) (p : GivenNode) → Formed v s n p → Holds (given_node p)
   given_holds n p f =
       record {
-        sources = ends-short n p.sources f.sources;
+        sources = ends_short n p.sources f.sources;
         lines = all_made (Fitting s) (Held s) given (fitting-whole s) p.lines f.lines;
-        sinks = ends-short n p.sinks f.sinks;
+        sinks = ends_short n p.sinks f.sinks;
       }
 
   module _ (bytes : Bytes s) (d : Dag) (laws : Laws v s d) where
@@ -314,66 +314,66 @@ module _ (v : Setting) (s : List ℕ) where
     all_hold : All Holds old
     all_hold = all_made (Formed v s (length ps)) Holds given_node (given_holds (length ps)) ps ac.formed
 
-    node-holds : (k : ℕ) → k < length d.graph → (b : Bool) → ltb k (length ps) ≡ b → Holds (node_at d.graph k)
-    node-holds k h true e =
+    node_holds : (k : ℕ) → k < length d.graph → (b : Bool) → ltb k (length ps) ≡ b → Holds (node_at d.graph k)
+    node_holds k h true e =
         let i : k < length ps = ltb-true k (length ps) e in
         let o : Holds (node_at old k) = all_in Holds old k bare (omega (arith, long)) all_hold in
         let t : Texts old d.graph k = laws.texts k i in
         record {
-          sources = begun-short (texts_at (node_at old k).sources) (texts_at (node_at d.graph k).sources) t.sources o.sources;
+          sources = begun_short (texts_at (node_at old k).sources) (texts_at (node_at d.graph k).sources) t.sources o.sources;
           lines = rw (laws.lines k i) o.lines;
-          sinks = begun-short (texts_at (node_at old k).sinks) (texts_at (node_at d.graph k).sinks) t.sinks o.sinks;
+          sinks = begun_short (texts_at (node_at old k).sinks) (texts_at (node_at d.graph k).sinks) t.sinks o.sinks;
         }
-    node-holds k h false e =
+    node_holds k h false e =
         let l : length ps ≤ k = ltb-false k (length ps) e in
-        let b : Blank (node_at d.graph k) = past-blank k h l in
+        let b : Blank (node_at d.graph k) = past_blank k h l in
         record {
-          sources = none-short (node_at d.graph k).sources (omega (arith, b));
-          lines = past-line k h l (ltb k (length ps + leads_of ps)) refl;
-          sinks = none-short (node_at d.graph k).sinks (omega (arith, b));
+          sources = none_short (node_at d.graph k).sources (omega (arith, b));
+          lines = past_line k h l (ltb k (length ps + leads_of ps)) refl;
+          sinks = none_short (node_at d.graph k).sinks (omega (arith, b));
         }
       where
         -- a lead's box, or a cut's
-        past-line : (k : ℕ) → k < length d.graph → length ps ≤ k → (c : Bool) → ltb k (length ps + leads_of ps) ≡ c → All (Held s) (node_at d.graph k).lines
-        past-line k h l true e =
+        past_line : (k : ℕ) → k < length d.graph → length ps ≤ k → (c : Bool) → ltb k (length ps + leads_of ps) ≡ c → All (Held s) (node_at d.graph k).lines
+        past_line k h l true e =
             let o = box-byte v s bytes d laws k l (ltb-true k (length ps + leads_of ps) e) in
             rw o.line ((omega (arith, o.given, o.past), omega (arith, o.small)), tt)
-        past-line k h l false e =
+        past_line k h l false e =
             let m : Named (length ps) (node_at d.graph k).lines = laws.inserted k (ltb-false k (length ps + leads_of ps) e) h in
             rw m.line (omega (arith, m.inside, ac.nodes), tt)
 
-        past-blank : (k : ℕ) → k < length d.graph → length ps ≤ k → Blank (node_at d.graph k)
-        past-blank k h l =
+        past_blank : (k : ℕ) → k < length d.graph → length ps ≤ k → Blank (node_at d.graph k)
+        past_blank k h l =
             let z : length old + (k - length old) ≡ k = omega (arith, long) in
             let b : Blank (get_or (drop (length old) d.graph) (k - length old) bare) =
             all_in Blank (drop (length old) d.graph) (k - length old) bare (omega (arith, length-drop (length old) d.graph, long)) (blank v s d laws) in
             rw (get_or-drop (length old) d.graph (k - length old) bare, z) at b
 
-    box-kept : (cols rows : List ℕ) (k : ℕ) → (b : Bool) → ltb k (length d.graph) ≡ b → All Kept (get_or (tabulate (box_of d.graph cols rows) 0 (length d.graph)) k no_outputs).texts
-    box-kept cols rows k true e =
+    box_kept : (cols rows : List ℕ) (k : ℕ) → (b : Bool) → ltb k (length d.graph) ≡ b → All Kept (get_or (tabulate (box_of d.graph cols rows) 0 (length d.graph)) k no_outputs).texts
+    box_kept cols rows k true e =
         let h : k < length d.graph = ltb-true k (length d.graph) e in
         let f : get_or (tabulate (box_of d.graph cols rows) 0 (length d.graph)) k no_outputs ≡ box_of d.graph cols rows k =
         get_d_tabulate (box_of d.graph cols rows) 0 (length d.graph) k no_outputs h ∙ ap (box_of d.graph cols rows) (zero-add k) in
         rw f
         (all_made Kept Kept (text_moved (box_of d.graph cols rows k).x (box_of d.graph cols rows k).y) (λ t m. m) (drawn (node_at d.graph k)).texts
-        (node_kept (node_at d.graph k) (node-holds k h (ltb k (length ps)) refl)))
-    box-kept cols rows k false e =
+        (node_kept (node_at d.graph k) (node_holds k h (ltb k (length ps)) refl)))
+    box_kept cols rows k false e =
         let l : length (tabulate (box_of d.graph cols rows) 0 (length d.graph)) ≤ k =
         omega (arith, length-tabulate (box_of d.graph cols rows) 0 (length d.graph), ltb-false k (length d.graph) e) in
         rw (get_or-eq_default (tabulate (box_of d.graph cols rows) 0 (length d.graph)) no_outputs l) tt
 
-    sheet-lies : (k i : ℕ) → Lies s (label_of (sheet_of_dag d) k i)
+    sheet_lies : (k i : ℕ) → Lies s (label_of (sheet_of_dag d) k i)
     unfolding sheet_of_dag sheet sheet_of
-    sheet-lies k i =
+    sheet_lies k i =
         let g : Graph = d.graph in
         let rows : List ℕ = heights (shape_of g) in
         let cols : List ℕ = columns (shape_of g) rows (firstColumns (shape_of g)) in
-        label_lies (get_or (tabulate (box_of g cols rows) 0 (length g)) k no_outputs).texts (box-kept cols rows k (ltb k (length g)) refl) i
+        label_lies (get_or (tabulate (box_of g cols rows) 0 (length g)) k no_outputs).texts (box_kept cols rows k (ltb k (length g)) refl) i
 
   -- a label's text is a text of the chart, or one of the 287 fixed texts
-  pub labelled-lies : Bytes s → (x y k i : ℕ) (p : LabelPlace) → labelled v s x y k i ≡ labels p → Lies s p
+  pub labelled_lies : Bytes s → (x y k i : ℕ) (p : LabelPlace) → labelled v s x y k i ≡ labels p → Lies s p
   unfolding labelled sheeted
-  labelled-lies bytes x y k i p e = go (graphed v s) refl e
+  labelled_lies bytes x y k i p e = go (graphed v s) refl e
     where
       in_sheet : (sh : Sheet) → Lies s (label_of sh k i) → (b : Bool) → cond b (labels (label_of sh k i)) (unlabelled 15 0) ≡ labels p → Lies s p
       in_sheet sh l true e = let f : label_of sh k i ≡ p = cc in rw f at l
@@ -384,5 +384,5 @@ module _ (v : Setting) (s : List ℕ) where
       fitting sh l false e = let z : ◌≡◌ {A = ℕ} 0 1 = cc in absurd (omega arith)
 
       go : (h : Graphed) → graphed v s ≡ h → label_on k i (drawn_at x y h) ≡ labels p → Lies s p
-      go (cut d) c f = fitting (sheet_of_dag d) (sheet-lies bytes d (graph-laws v s d c) k i) (within x (sheet_of_dag d).width && within y (sheet_of_dag d).height) f
+      go (cut d) c f = fitting (sheet_of_dag d) (sheet_lies bytes d (graph-laws v s d c) k i) (within x (sheet_of_dag d).width && within y (sheet_of_dag d).height) f
       go (uncut a b) c f = let z : ◌≡◌ {A = ℕ} 0 1 = cc in absurd (omega arith)

@@ -72,14 +72,14 @@ module _ (s k : Ends) where
     rest : List ℕ
     whole : ys ≡ xs ++ rest
 
-  ends-begun : (p n : ℕ) → p ≤ n → Begun (ends_to s k p) (ends_to s k n)
+  ends_begun : (p n : ℕ) → p ≤ n → Begun (ends_to s k p) (ends_to s k n)
   unfolding ends_to
-  ends-begun p zero h = let e : p ≡ 0 = omega arith in record { rest = []; whole = rw e }
-  ends-begun p (suc n) h =
+  ends_begun p zero h = let e : p ≡ 0 = omega arith in record { rest = []; whole = rw e }
+  ends_begun p (suc n) h =
       elim (same? p (suc n)) [
         | inl e ↦ record { rest = []; whole = rw e (sym (append-nil (ends_to s k (suc n)))) }
         | inr d ↦
-            let b = ends-begun p n (omega arith) in
+            let b = ends_begun p n (omega arith) in
             let x = ends_of s n ++ ends_of k n in
             record { rest = b.rest ++ x; whole = ap (λ (l : List ℕ). l ++ x) b.whole ∙ append_assoc (ends_to s k p) b.rest x }
       ]
@@ -149,11 +149,11 @@ module _ (n : ℕ) (s k : Ends) (x : Linked n s) (y : Linked n k) where
 
     -- node p's in their places
     abbrev past : (p : ℕ) → p < n → List ℕ
-    past p h = (ends-begun s k (p + 1) n (omega arith)).rest ++ free
+    past p h = (ends_begun s k (p + 1) n (omega arith)).rest ++ free
 
     split : (p : ℕ) (h : p < n) → to ≡ ends_to s k p ++ (ends_of s p ++ (ends_of k p ++ past p h))
     split p h =
-        let r = ends-begun s k (p + 1) n (omega arith) in
+        let r = ends_begun s k (p + 1) n (omega arith) in
         to_is ∙ ap (λ (z : List ℕ). z ++ free) (r.whole ∙ ap (λ (z : List ℕ). z ++ r.rest) (ends_next s k p)) ∙ simp append_assoc
 
     sources-at : (p : ℕ) (h : p < n) → part to (at bounds (2 * p)) (at bounds (2 * p + 1)) ≡ ends_of s p

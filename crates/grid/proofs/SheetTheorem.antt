@@ -37,9 +37,9 @@ pub record SheetTheorem (n leads cuts : ℕ) (g : Graph) (s : Sheet) : Type 0 wh
   pub boxes : length s.boxes ≡ n + leads + 2 * s.cuts
   pub reports : s.cuts ≡ cuts
   -- each box has a column and a row of the sheet
-  pub has-cell : (k : ℕ) → k < length s.boxes → ((box s k).column < s.columns) × ((box s k).row < s.rows)
+  pub has_cell : (k : ℕ) → k < length s.boxes → ((box s k).column < s.columns) × ((box s k).row < s.rows)
   -- no two have the same
-  pub no-two : (i j c r : ℕ) → i < length s.boxes → j < length s.boxes → Names s i c r → Names s j c r → i ≡ j
+  pub no_two : (i j c r : ℕ) → i < length s.boxes → j < length s.boxes → Names s i c r → Names s j c r → i ≡ j
   -- any two boxes are at least 1,024 units apart across or 2,048 down
   pub distance : (i j : ℕ) → i < length s.boxes → j < length s.boxes → (i ≡ j → ⊥) → Across (box s i) (box s j) ⊎ Down (box s i) (box s j)
   -- each box is at least 128 inside all four edges of the sheet

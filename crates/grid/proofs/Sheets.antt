@@ -93,16 +93,16 @@ module _ (n leads cuts : ℕ) (g : Graph) (sh : Sheet) (t : SheetTheorem n leads
   owner-is k h = ap (λ (b : BoxRecord). b.owner) (box-is k h) ∙ ap (λ (b : Box). b.owner) (t.node's k (in_graph k h))
 
   column-below : (k : ℕ) → k < r.count → (box r k).column < sh.columns
-  column-below k h = omega (arith, ap (λ (b : BoxRecord). b.column) (box-is k h), (t.has-cell k (in_sheet k h)).0)
+  column-below k h = omega (arith, ap (λ (b : BoxRecord). b.column) (box-is k h), (t.has_cell k (in_sheet k h)).0)
 
   row_below : (k : ℕ) → k < r.count → (box r k).row < sh.rows
-  row_below k h = omega (arith, ap (λ (b : BoxRecord). b.row) (box-is k h), (t.has-cell k (in_sheet k h)).1)
+  row_below k h = omega (arith, ap (λ (b : BoxRecord). b.row) (box-is k h), (t.has_cell k (in_sheet k h)).1)
 
   names : (k c w : ℕ) → k < r.count → Names r k c w → ((boxIn sh k).column ≡ c) × ((boxIn sh k).row ≡ w)
   names k c w h q = (sym (ap (λ (b : BoxRecord). b.column) (box-is k h)) ∙ q.0, sym (ap (λ (b : BoxRecord). b.row) (box-is k h)) ∙ q.1)
 
   two : (i j c w : ℕ) → i < r.count → j < r.count → Names r i c w → Names r j c w → i ≡ j
-  two i j c w hi hj p q = t.no-two i j c w (in_sheet i hi) (in_sheet j hj) (names i c w hi p) (names j c w hj q)
+  two i j c w hi hj p q = t.no_two i j c w (in_sheet i hi) (in_sheet j hj) (names i c w hi p) (names j c w hj q)
 
   apart : Apart r
   apart =
@@ -110,7 +110,7 @@ module _ (n leads cuts : ℕ) (g : Graph) (sh : Sheet) (t : SheetTheorem n leads
         few = omega (arith, count-is);
         rows = λ k h. omega (arith, row_below k h);
         columns = λ k h. omega (arith, column-below k h);
-        no-two = λ i j hi hj p q. two i j (box r j).column (box r j).row hi hj (q, p) (refl, refl);
+        no_two = λ i j hi hj p q. two i j (box r j).column (box r j).row hi hj (q, p) (refl, refl);
       }
 
   -- the rows of cells show a box where it is named, and nothing elsewhere
@@ -157,17 +157,17 @@ module _ (n leads cuts : ℕ) (g : Graph) (sh : Sheet) (t : SheetTheorem n leads
         rows = high;
         in_cell = λ k h. (column-below k h, row_below k h, shows (box r k).column (box r k).row (column-below k h) (row_below k h) k h (refl, refl));
         no_other = λ k c w hc hw l e. other c w hc hw k l e;
-        no-two = two;
+        no_two = two;
         empty = λ c w hc hw. (hollow c w hc hw, unnamed c w hc hw);
         distance = across;
         left = λ k h. rw (box-is k h) (t.left k (in_sheet k h));
         top = λ k h. rw (box-is k h) (t.top k (in_sheet k h));
         right = λ k h. rw (box-is k h) (t.right k (in_sheet k h));
         bottom = λ k h. rw (box-is k h) (t.bottom k (in_sheet k h));
-        owner-given = λ k h. owner-is k (omega (arith, t.given, count-is)) ∙ o.given k h;
-        owner-lead = λ k l h. owner-is k (omega (arith, t.boxes, count-is)) ∙ o.lead k l h;
-        owner-cut = λ k l h. let q = o.cut k l (in_graph k h) in rw (owner-is k h) q;
-        owner-halves = λ j h.
+        owner_given = λ k h. owner-is k (omega (arith, t.given, count-is)) ∙ o.given k h;
+        owner_lead = λ k l h. owner-is k (omega (arith, t.boxes, count-is)) ∙ o.lead k l h;
+        owner_cut = λ k l h. let q = o.cut k l (in_graph k h) in rw (owner-is k h) q;
+        owner_halves = λ j h.
             owner-is (n + leads + 2 * j) (omega (arith, t.boxes, count-is, t.reports)) ∙ o.halves j h
             ∙ sym (owner-is (n + leads + 2 * j + 1) (omega (arith, t.boxes, count-is, t.reports)));
         owners = λ k h e. rw (owner-is k h) (owners-inside n leads cuts g o k (in_graph k h) (λ z. e (owner-is k h ∙ z)));
@@ -205,7 +205,7 @@ module _ (v : Setting) (s : List ℕ) (w : Graphing) (a : Graphs v s w) (first :
       }
 
   pub seated : Seated t
-  seated = record { linked = a.sound.linked; line-room = a.sound.line-room }
+  seated = record { linked = a.sound.linked; line_room = a.sound.line_room }
 
 -- ---- the stages one after the other
 module _ (t : Tables) (long : length t.sources.items ≡ 88) (long₂ : length t.sinks.items ≡ 88) (z : Seated t) (from to : Ends) (e : from ≡ ends_in t.sources) (e₂ : to ≡ ends_in t.sinks) where

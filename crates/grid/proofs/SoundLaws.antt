@@ -56,8 +56,8 @@ pub record CurveIn (w h : ℕ) (c : Curve) : Type 0 where
   pub top : c.y0 ≤ h
   pub right : c.x1 ≤ w
   pub bottom : c.y1 ≤ h
-  pub even-top : Even c.y0
-  pub even-bottom : Even c.y1
+  pub even_top : Even c.y0
+  pub even_bottom : Even c.y1
 
 module _ (w h : ℕ) where
   -- an output that is found is one of the box's
@@ -80,7 +80,7 @@ module _ (w h : ℕ) where
 
   if_in : (o : Option Output) (i : Input) → Some o → InputIn w h i → All (CurveIn w h) (curve_if o i)
   if_in none i s t = tt
-  if_in (some o) i s t = (record { left = s.0; top = s.1; right = t.0; bottom = t.1; even-top = s.2; even-bottom = t.2 }, tt)
+  if_in (some o) i s t = (record { left = s.0; top = s.1; right = t.0; bottom = t.1; even_top = s.2; even_bottom = t.2 }, tt)
 
   module _ (bs : List Box) (a : All (BoxIn w h) bs) where
     outputs-of : (q : ℕ) → All (OutputIn w h) (get_or bs q no_outputs).outputs

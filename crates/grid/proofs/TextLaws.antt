@@ -24,7 +24,7 @@ use Rattle.graph.specs.Joining.{leads_of, uncut}
 use Rattle.graph.specs.Cutting.{turned, pointed, first_node, second_node, cut_graph, reached, cutting}
 use Rattle.graph.specs.Graphed.{Dag, ready, graphed}
 use Rattle.graph.specs.Laws.{texts_at, Begins, Texts, Named, BoxOf, Laws}
-use Rattle.graph.proofs.Keeps.{cutting-keeps}
+use Rattle.graph.proofs.Keeps.{cutting_keeps}
 use Rattle.graph.proofs.Uncut.{uncut-long}
 use Rattle.graph.proofs.AimLaws.{all_in}
 use Rattle.graph.proofs.Gathers.{graph-laws}
@@ -73,7 +73,7 @@ cut-inserted n g c s e hc hq l =
 cut-blank : (g : Graph) → All Blank (drop (length g) (cutting g).graph)
 cut-blank g =
     let n : ℕ = length g in
-    (cutting-keeps n (reached g) (λ w. All Blank (drop n w.graph)) (λ w c x b. b)
+    (cutting_keeps n (reached g) (λ w. All Blank (drop n w.graph)) (λ w c x b. b)
     (λ w c s hc hs hq l bz fr b.
     let e : Edge = get_or (node_at w.graph c).sinks s no_edge in
     rw (cut-inserted n w.graph c s e hc hq l) (all_join Blank (drop n w.graph) (two c s e.to) b (refl, (refl, tt))))
@@ -145,8 +145,8 @@ module _ (w : Setting) (s : List ℕ) (d : Dag) (laws : Laws w s d) where
   long = length-map ps given_node
 
   -- a cut's box
-  past-blank : (k : ℕ) → length (uncut ps) ≤ k → k < length d.graph → Blank (node_at d.graph k)
-  past-blank k l h =
+  past_blank : (k : ℕ) → length (uncut ps) ≤ k → k < length d.graph → Blank (node_at d.graph k)
+  past_blank k l h =
       let c : All Blank (drop (length (uncut ps)) d.graph) = subst (λ (x : Dag). All Blank (drop (length (uncut ps)) x.graph)) (sym laws.walk) (cut-blank (uncut ps)) in
       let z : length (uncut ps) + (k - length (uncut ps)) ≡ k = omega arith in
       let b : Blank (get_or (drop (length (uncut ps)) d.graph) (k - length (uncut ps)) bare) =
@@ -159,7 +159,7 @@ module _ (w : Setting) (s : List ℕ) (d : Dag) (laws : Laws w s d) where
       let m : length ps ≤ k = omega (arith, long) in
       let j : k < length ps + leads_of ps = omega (arith, uncut-long ps) in
       rw (laws.kept k m j) (box-blank _ _ _ _ _ (laws.joined k m j))
-  node-blank k l h false e = past-blank k (ltb-false k (length (uncut ps)) e) h
+  node-blank k l h false e = past_blank k (ltb-false k (length (uncut ps)) e) h
 
   pub blank : All Blank (drop (length old) d.graph)
   blank = blank-from (length old) d.graph (λ k l h. node-blank k l h (ltb k (length (uncut ps))) refl)

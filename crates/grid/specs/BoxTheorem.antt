@@ -47,7 +47,7 @@ pub record BoxTheorem (n leads cuts : ℕ) (g : Graph) (s : SheetRecord) : Type 
   pub in_cell : (k : ℕ) → k < s.count → ((box s k).column < s.columns) × ((box s k).row < s.rows) × (cell s (box s k).column (box s k).row ≡ k)
   pub no_other : (k c r : ℕ) → c < s.columns → r < s.rows → k < 255 → cell s c r ≡ k → (k < s.count) × Names s k c r
   -- no cell with two
-  pub no-two : (i j c r : ℕ) → i < s.count → j < s.count → Names s i c r → Names s j c r → i ≡ j
+  pub no_two : (i j c r : ℕ) → i < s.count → j < s.count → Names s i c r → Names s j c r → i ≡ j
   -- a cell is empty exactly when no box names it
   pub empty : (c r : ℕ) → c < s.columns → r < s.rows → (cell s c r ≡ 255) ↔ ((k : ℕ) → k < s.count → Names s k c r → ⊥)
   -- any two boxes are 1,024 apart across or 2,048 down
@@ -58,10 +58,10 @@ pub record BoxTheorem (n leads cuts : ℕ) (g : Graph) (s : SheetRecord) : Type 
   pub right : (k : ℕ) → k < s.count → (box s k).x + (box s k).width + 128 ≤ s.width
   pub bottom : (k : ℕ) → k < s.count → (box s k).y + (box s k).height + 128 ≤ s.height
   -- document 02, L6: a given node owns its box; 255 stands for 'a box of L5'; a cut's box is owned by 'the node whose number' it 'shows', a given one
-  pub owner-given : (k : ℕ) → k < n → (box s k).owner ≡ k
-  pub owner-lead : (k : ℕ) → n ≤ k → k < n + leads → (box s k).owner ≡ 255
-  pub owner-cut : (k : ℕ) → n + leads ≤ k → k < s.count → ((box s k).owner < n) × ((node_at g k).lines ≡ one (number (box s k).owner))
+  pub owner_given : (k : ℕ) → k < n → (box s k).owner ≡ k
+  pub owner_lead : (k : ℕ) → n ≤ k → k < n + leads → (box s k).owner ≡ 255
+  pub owner_cut : (k : ℕ) → n + leads ≤ k → k < s.count → ((box s k).owner < n) × ((node_at g k).lines ≡ one (number (box s k).owner))
   -- 'both halves of a cut must have the pen of the block they stand for': cut j made boxes n + leads + 2 × j and the next, and they have one owner
-  pub owner-halves : (j : ℕ) → j < cuts → (box s (n + leads + 2 * j)).owner ≡ (box s (n + leads + 2 * j + 1)).owner
+  pub owner_halves : (j : ℕ) → j < cuts → (box s (n + leads + 2 * j)).owner ≡ (box s (n + leads + 2 * j + 1)).owner
   -- 'the owner of every box without 255 is a given node'
   pub owners : (k : ℕ) → k < s.count → ((box s k).owner ≡ 255 → ⊥) → (box s k).owner < n

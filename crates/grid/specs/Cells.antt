@@ -45,5 +45,5 @@ pub record Apart (s : SheetRecord) : Type 0 where
   pub few : s.count ≤ 48
   pub rows : (k : ℕ) → k < s.count → (get_or s.boxes k no_box).row < 48
   pub columns : (k : ℕ) → k < s.count → (get_or s.boxes k no_box).column < 144
-  pub no-two : (i j : ℕ) → i < s.count → j < s.count → (get_or s.boxes i no_box).row ≡ (get_or s.boxes j no_box).row →
+  pub no_two : (i j : ℕ) → i < s.count → j < s.count → (get_or s.boxes i no_box).row ≡ (get_or s.boxes j no_box).row →
       (get_or s.boxes i no_box).column ≡ (get_or s.boxes j no_box).column → i ≡ j

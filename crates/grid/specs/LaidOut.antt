@@ -50,7 +50,7 @@ pub record LaidOut (w : Setting) (s : List ℕ) (x y : ℕ) (r : SheetRecord) : 
   -- 'Columns and rows run to the largest used': 1 of each where there is no box. 'No column reaches 3N.'
   pub columns : r.columns ≡ suc (largest (map (λ (b : BoxRecord). b.column) (boxes_of r)))
   pub rows : r.rows ≡ suc (largest (map (λ (b : BoxRecord). b.row) (boxes_of r)))
-  pub few-columns : 0 < r.count → r.columns ≤ 3 * r.count
+  pub few_columns : 0 < r.count → r.columns ≤ 3 * r.count
   -- the given nodes, and the sheet with its texts
   pub board : Board
   pub read : chart w s ≡ accepted board
@@ -59,8 +59,8 @@ pub record LaidOut (w : Setting) (s : List ℕ) (x y : ℕ) (r : SheetRecord) : 
   pub laid : sheeted w s x y ≡ ready sheet
   pub is : r ≡ record_of sheet x y
   -- box k is given node k's: its size is that of the node as the chart gives it, and so is what is written in it
-  pub given-width : (k : ℕ) → k < length board → (box r k).width ≡ box_width (node_at (given_graph board) k)
-  pub given-height : (k : ℕ) → k < length board → (box r k).height ≡ box_height (node_at (given_graph board) k)
+  pub given_width : (k : ℕ) → k < length board → (box r k).width ≡ box_width (node_at (given_graph board) k)
+  pub given_height : (k : ℕ) → k < length board → (box r k).height ≡ box_height (node_at (given_graph board) k)
   pub given_labels : (k : ℕ) → k < length board → lines_in sheet k ≡ labels_for (node_at (given_graph board) k)
   -- the boxes of the leads come next: in each the target, which isn't a given node, and `(invalid)` is written, and nothing else
   pub lead_labels : (k : ℕ) → length board ≤ k → k < length board + leads_in w s → (t : ℕ) × (length board ≤ t) × (lines_in sheet k ≡ one (invalid t))

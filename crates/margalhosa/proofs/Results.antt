@@ -43,7 +43,7 @@ module _ (v : Setting) (s : List ℕ) (x y : ℕ) (o : Outcome) (i : IsSheet v s
         whole = rw (a, b) (ap sheet_result i.whole);
         drawn = λ z. sym i.whole ∙ rw (← ready_at z);
         laid = λ z. i.laid (ready_at z);
-        text-most = λ z. own-text-most v s x y o i (ready_at z);
+        text_most = λ z. own-text-most v s x y o i (ready_at z);
         promised = subst (IsSheet v s x y) i.whole i;
       }
 

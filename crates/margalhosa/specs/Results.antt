@@ -59,7 +59,7 @@ pub record IsSheetResult (w : Setting) (s : List ℕ) (x y : ℕ) (r : SheetResu
   pub drawn : r.refused ≡ 0 → outcome_of x y (sheeted w s x y) ≡ record { answer = Ready; sheet = r.sheet }
   -- what is claimed of a sheet that is drawn; its text has at most 9,467 bytes
   pub laid : r.refused ≡ 0 → LaidOut w s x y r.sheet
-  pub text-most : r.refused ≡ 0 → length (text_of (drawn_of r.sheet)) ≤ 9467
+  pub text_most : r.refused ≡ 0 → length (text_of (drawn_of r.sheet)) ≤ 9467
 
 abbrev pub box_result : BoxAnswer → BoxResult
 box_result b = record { refused = (numbers_of b.answer).first; second = (numbers_of b.answer).second; place = b.place }

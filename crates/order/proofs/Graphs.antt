@@ -69,7 +69,7 @@ module _ (t : Tables) (long : length t.sources.items ≡ 88) (long₂ : length t
   sources-linked = linked-held t.n t.sources long l.source_room l.nodes l.source_owners l.source_aims
 
   pub sinks-linked : EndsLinked t.n (ends_in t.sinks)
-  sinks-linked = linked-held t.n t.sinks long₂ l.sink-room l.nodes l.sink-owners l.sink-aims
+  sinks-linked = linked-held t.n t.sinks long₂ l.sink_room l.nodes l.sink_owners l.sink_aims
 
   pub size : length (columns (shape_of (graph_of t))) ≡ t.n
   size = rw (← shape-held t) (size_in t.n (ends_in t.sources) (ends_in t.sinks) sources-linked sinks-linked)

@@ -131,13 +131,13 @@ module _ (n : ℕ) (few : n ≤ 48) where
             record {
               size = single-long 0 n;
               few = few;
-              lengths-long = length-replicate {A = ℕ} 48 1;
-              firsts-long = length-filled number (replicate 48 (number 0)) 48 ∙ length-replicate 48 (number 0);
+              lengths_long = length-replicate {A = ℕ} 48 1;
+              firsts_long = length-filled number (replicate 48 (number 0)) 48 ∙ length-replicate 48 (number 0);
               lengths = λ k l. get_or-replicate 48 k 1 0 (omega arith) ∙ sym (ap (λ (x : List ℕ). length x) (single-chain n k l));
               firsts = λ k l. separate_first k (omega arith) ∙ sym (ap (λ (x : List ℕ). get_or x 0 0) (single-chain n k l));
             };
-        colours-long = length-filled colour (replicate 48 (colour 0)) 48 ∙ length-replicate 48 (colour 0);
-        places-long = length-replicate {A = ℕ} 48 0;
+        colours_long = length-filled colour (replicate 48 (colour 0)) 48 ∙ length-replicate 48 (colour 0);
+        places_long = length-replicate {A = ℕ} 48 0;
         at = separate_at;
         has = separate_has;
       }
@@ -183,10 +183,10 @@ module _ (n : ℕ) (cs : Chains) (h : Held) (s : Stand n cs h) (x y : ℕ) (l : 
   other = join-other cs x y lx ly ne
 
   new-colour : (p : ℕ) → p < n → colour_at h' p ≡ (cond (eqb (colour_at h p) y) (colour x) (get_or h.colours p (colour 0))).0
-  new-colour p i = ap (λ (c : Colour). c.0) (filled_at (recolour h x y) h.colours n p (colour 0) i (omega (arith, s.colours-long, s.tops.few)))
+  new-colour p i = ap (λ (c : Colour). c.0) (filled_at (recolour h x y) h.colours n p (colour 0) i (omega (arith, s.colours_long, s.tops.few)))
 
   new-place : (p : ℕ) → p < n → place_at h' p ≡ move h x y p
-  new-place p i = filled_at (move h x y) h.places n p 0 i (omega (arith, s.places-long, s.tops.few))
+  new-place p i = filled_at (move h x y) h.places n p 0 i (omega (arith, s.places_long, s.tops.few))
 
   colour-y : (p : ℕ) → p < n → colour_at h p ≡ y → colour_at h' p ≡ x
   colour-y p i e = new-colour p i ∙ rw (eq-eqb (colour_at h p) y e)
@@ -273,12 +273,12 @@ module _ (n : ℕ) (cs : Chains) (h : Held) (s : Stand n cs h) (x y : ℕ) (l : 
   joined-lengths : (j : ℕ) → j < n → length_at h'.lengths j ≡ length (chain ds j)
   joined-lengths j b =
       elim (same? j y) [
-        | inl e ↦ rw (e, second) (get_or-set_same (set h.lengths x sum) y 0 0 (rw (length-set h.lengths x sum) (omega (arith, s.tops.lengths-long, s.tops.few))))
+        | inl e ↦ rw (e, second) (get_or-set_same (set h.lengths x sum) y 0 0 (rw (length-set h.lengths x sum) (omega (arith, s.tops.lengths_long, s.tops.few))))
         | inr o ↦
             let past : length_at h'.lengths j ≡ length_at (set h.lengths x sum) j = get_or-set_other (set h.lengths x sum) y j 0 0 o in
             elim (same? j x) [
               | inl e ↦
-                  past ∙ ap (length_at (set h.lengths x sum)) e ∙ get_or-set_same h.lengths x sum 0 (omega (arith, s.tops.lengths-long, s.tops.few))
+                  past ∙ ap (length_at (set h.lengths x sum)) e ∙ get_or-set_same h.lengths x sum 0 (omega (arith, s.tops.lengths_long, s.tops.few))
                   ∙ rw (e, first, length-append) (omega (arith, s.tops.lengths x l, s.tops.lengths y k))
               | inr u ↦ past ∙ get_or-set_other h.lengths x j sum 0 u ∙ s.tops.lengths j b ∙ sym (ap (λ (v : List ℕ). length v) (other j u o))
             ]
@@ -288,7 +288,7 @@ module _ (n : ℕ) (cs : Chains) (h : Held) (s : Stand n cs h) (x y : ℕ) (l : 
   joined-firsts j b =
       elim (same? j y) [
         | inl e ↦
-            ap (first_at h'.firsts) e ∙ ap (λ (f : NodeNumber). f.0) (get_or-set_same h.firsts y (number 0) (number 0) (omega (arith, s.tops.firsts-long, s.tops.few)))
+            ap (first_at h'.firsts) e ∙ ap (λ (f : NodeNumber). f.0) (get_or-set_same h.firsts y (number 0) (number 0) (omega (arith, s.tops.firsts_long, s.tops.few)))
             ∙ sym (ap (λ (v : List ℕ). get_or v 0 0) (ap (chain ds) e ∙ second))
         | inr o ↦
             let past : first_at h'.firsts j ≡ first_at h.firsts j = ap (λ (f : NodeNumber). f.0) (get_or-set_other h.firsts y j (number 0) (number 0) o) in
@@ -307,13 +307,13 @@ module _ (n : ℕ) (cs : Chains) (h : Held) (s : Stand n cs h) (x y : ℕ) (l : 
             record {
               size = length-join cs x y ∙ s.tops.size;
               few = s.tops.few;
-              lengths-long = length-set (set h.lengths x sum) y 0 ∙ length-set h.lengths x sum ∙ s.tops.lengths-long;
-              firsts-long = length-set h.firsts y (number 0) ∙ s.tops.firsts-long;
+              lengths_long = length-set (set h.lengths x sum) y 0 ∙ length-set h.lengths x sum ∙ s.tops.lengths_long;
+              firsts_long = length-set h.firsts y (number 0) ∙ s.tops.firsts_long;
               lengths = joined-lengths;
               firsts = joined-firsts;
             };
-        colours-long = length-filled (recolour h x y) h.colours n ∙ s.colours-long;
-        places-long = length-filled (move h x y) h.places n ∙ s.places-long;
+        colours_long = length-filled (recolour h x y) h.colours n ∙ s.colours_long;
+        places_long = length-filled (move h x y) h.places n ∙ s.places_long;
         at = joined_at;
         has = joined-has;
       }

@@ -19,7 +19,7 @@ use Rattle.grid.specs.declared.LabelOutcome.{LabelOutcome}
 use Rattle.grid.specs.Labels.{no_label}
 use Rattle.grid.specs.Labelled.{Labelled, ready, refusal, labelled, label_outcome_of}
 use Rattle.graph.proofs.Gathers.{Bytes}
-use Rattle.grid.proofs.LabelPlaces.{Lies, labelled-lies}
+use Rattle.grid.proofs.LabelPlaces.{Lies, labelled_lies}
 use Rattle.path.specs.declared.label.Span.{Span}
 use denote.Ref.{Bor}
 use Rattle.path.specs.declared.LabelSpan.{LabelSpan}
@@ -77,7 +77,7 @@ module _ (w : Setting) (s t : List ℕ) (bytes : Bytes s) (x y k i : ℕ) (r : L
   found = tabled-ready t (labelled w s x y k i) r e a
 
   lies : Lies s r.place
-  lies = labelled-lies w s bytes x y k i r.place found.0
+  lies = labelled_lies w s bytes x y k i r.place found.0
 
   part-is : label_part_of s t (labelled w s x y k i) ≡ place_in s (ready r.place)
   part-is = rw (found.0, found.1)
@@ -174,7 +174,7 @@ tabled-text s t (ready p) h false e = rw e (refused-text s t 15 0)
 tabled-text s t (refusal i j) h b e = refused-text s t i j
 
 label_text : (w : Setting) (s t : List ℕ) → Bytes s → (x y k i : ℕ) → LabelText s t (tabled t (labelled w s x y k i))
-label_text w s t bytes x y k i = tabled-text s t (labelled w s x y k i) (λ p e. labelled-lies w s bytes x y k i p e) (same t stand_ins) refl
+label_text w s t bytes x y k i = tabled-text s t (labelled w s x y k i) (λ p e. labelled_lies w s bytes x y k i p e) (same t stand_ins) refl
 
 pub is_label_part : (w : Setting) (s t : Bor (List ℕ)) → Bytes s.now → (x y k i : ℕ) (r : Bor (List ℕ)) → IsAt (label_part_of s.now t.now (labelled w s.now x y k i)) s t r →
     IsLabelPart s t (labelled w s.now x y k i) r

@@ -154,8 +154,8 @@ module _ (j : ℕ) (h : j < 287) where
         let a = both (eqb (byte_of j i) (get_or (stand_in j) i 0)) (leb (i - places_of (shown_in j) - 1) 8) (right-at (byte_right j) (wide j) i (omega (arith, l, parts.long)) parts.each) in
         (eqb-true (byte_of j i) (get_or (stand_in j) i 0) a.0, leb-true (i - places_of (shown_in j) - 1) 8 a.1)
 
-    pub byte-is : byte_of j i ≡ get_or (stand_in j) i 0
-    byte-is = bytes.0
+    pub byte_is : byte_of j i ≡ get_or (stand_in j) i 0
+    byte_is = bytes.0
 
     pub byte_low : i - places_of (shown_in j) - 1 ≤ 8
     byte_low = bytes.1

@@ -31,9 +31,9 @@ use Rattle.path.proofs.Sheets.{sound-is, drawn-long, by_number}
 -- what is answered of a sheet: all that it holds, and else 15 and 16
 pub record Serves (r : SheetRecord) : Type 0 where
   pub box : (k : ℕ) → k < r.count → box_answer_of r k ≡ record { answer = Ready; place = get_or r.boxes k no_box }
-  pub no-box : (k : ℕ) → r.count ≤ k → box_answer_of r k ≡ refused_box 15
+  pub no_box : (k : ℕ) → r.count ≤ k → box_answer_of r k ≡ refused_box 15
   pub segment : (k : ℕ) → k < size_of r → given_of k (sheetAnswer r) ≡ Given-as-Drawn (segment_of (doubled_of (stroke_at r k)))
-  pub no-segment : (k : ℕ) → size_of r ≤ k → given_of k (sheetAnswer r) ≡ Given-as-Refused 15 0
+  pub no_segment : (k : ℕ) → size_of r ≤ k → given_of k (sheetAnswer r) ≡ Given-as-Refused 15 0
   pub text : (buf : List ℕ) → length (text_of (drawn_of r)) ≤ length buf → written_of buf (sheetAnswer r) ≡ Done (length (text_of (drawn_of r)))
   pub no_text : (buf : List ℕ) → length buf < length (text_of (drawn_of r)) → written_of buf (sheetAnswer r) ≡ Refused 16 (length (text_of (drawn_of r)))
 
@@ -43,9 +43,9 @@ sound_serves r b c o =
     let long : length (drawn_of r) ≡ size_of r = drawn-long r b c (sound-is r o) in
     record {
       box = λ k h. rw (o, lt-ltb k r.count h);
-      no-box = λ k h. rw (o, le-ltb k r.count h);
+      no_box = λ k h. rw (o, le-ltb k r.count h);
       segment = λ k h. let l : k < length (drawn_of r) = omega arith in rw (o, lt-ltb k (length (drawn_of r)) l, by_number r b c (sound-is r o) k h);
-      no-segment = λ k h. let l : length (drawn_of r) ≤ k = omega arith in rw (o, le-ltb k (length (drawn_of r)) l);
+      no_segment = λ k h. let l : length (drawn_of r) ≤ k = omega arith in rw (o, le-ltb k (length (drawn_of r)) l);
       text = λ buf h. let z : 0 + length (text_of (drawn_of r)) ≡ length (text_of (drawn_of r)) = omega arith in rw (o, z, le-leb (length (text_of (drawn_of r))) (length buf) h);
       no_text = λ buf h. let z : 0 + length (text_of (drawn_of r)) ≡ length (text_of (drawn_of r)) = omega arith in rw (o, z, lt-leb (length (text_of (drawn_of r))) (length buf) h);
     }

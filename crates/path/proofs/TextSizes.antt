@@ -191,7 +191,7 @@ module _ (v : Setting) (s : List ℕ) (x y : ℕ) (sh : Sheet) (e : sheeted v s 
 
   halfway_seven : (c : Curve) → CurveOn sh.width sh.height c → Halfway y 7 c
   halfway_seven c i =
-      whole-seven (y + c.y0 + (y + c.y1)) (omega (arith, i.top, i.bottom, d.down)) (omega (arith, i.even-top, i.even-bottom))
+      whole-seven (y + c.y0 + (y + c.y1)) (omega (arith, i.top, i.bottom, d.down)) (omega (arith, i.even_top, i.even_bottom))
 
   curves-own : curves_of (record_of sh x y) ≡ curves sh
   curves-own = curves-are sh x y (omega (arith, few-curves))
@@ -226,7 +226,7 @@ boxes-whole x y (b ∷ bs) ds a =
 curves-whole : (x y w t : ℕ) (cs : List Curve) → All (CurveOn w t) cs → All Whole (joined (curve_drawn x y) cs)
 curves-whole x y w t [] a = tt
 curves-whole x y w t (c ∷ cs) a =
-    let e : Even (y + c.y0 + (y + c.y1)) = omega (arith, a.0.even-top, a.0.even-bottom) in
+    let e : Even (y + c.y0 + (y + c.y1)) = omega (arith, a.0.even_top, a.0.even_bottom) in
     ((omega arith, (omega arith, tt)), ((omega arith, (e, (omega arith, (e, (omega arith, (omega arith, tt)))))), curves-whole x y w t cs a.1))
 
 pub sheet-whole : (v : Setting) (s : List ℕ) (x y : ℕ) (sh : Sheet) → sheeted v s x y ≡ ready sh → All Whole (drawn_of (record_of sh x y))

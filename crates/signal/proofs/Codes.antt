@@ -232,19 +232,19 @@ held_none n src = record { held = refl; long = refl }
 
 -- ---- the answer
 module _ (n : ℕ) (src : Sources) (all : Nodes) (w : all ≡ list_of (listed n src n)) where
-  long-is : all.count ≡ length (listed n src n)
-  long-is = ap (λ (x : Nodes). x.count) w
+  long_is : all.count ≡ length (listed n src n)
+  long_is = ap (λ (x : Nodes). x.count) w
 
   nodes-is : all.nodes ≡ padded 32 0 (listed n src n)
   nodes-is = ap (λ (x : Nodes). x.nodes) w
 
   pub answer-all : all.count ≡ n → (record { answer = Ready; count = n; nodes = all.nodes }) ≡ outcome_of (signalled_by n src)
   answer-all e =
-      let z : length (listed n src n) ≡ n = sym long-is ∙ e in
+      let z : length (listed n src n) ≡ n = sym long_is ∙ e in
       rw (eq-eqb (length (listed n src n)) n z, nodes-is, z)
 
   pub answer-cycle : all.count ≤ 32 → (all.count ≡ n → ⊥) → (f : Nodes) → f ≡ list_of (back_from n src (take all.count all.nodes)) → (record { answer = Refused 20 0; count = f.count; nodes = f.nodes }) ≡ outcome_of (signalled_by n src)
   answer-cycle few e f v =
-      let z : (length (listed n src n) ≡ n → ⊥) = λ i. e (long-is ∙ i) in
-      let h : take all.count all.nodes ≡ listed n src n = held_list all.nodes all.count (listed n src n) (record { held = nodes-is; long = long-is }) few in
+      let z : (length (listed n src n) ≡ n → ⊥) = λ i. e (long_is ∙ i) in
+      let h : take all.count all.nodes ≡ listed n src n = held_list all.nodes all.count (listed n src n) (record { held = nodes-is; long = long_is }) few in
       rw (ne_eqb (length (listed n src n)) n z, v, h)

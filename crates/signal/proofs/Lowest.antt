@@ -17,14 +17,14 @@ module _ (test : ℕ → Bool) where
     pub passes : r < p + k → test r ≡ true
     pub none : (q : ℕ) → p ≤ q → q < r → test q ≡ false
 
-  pub is-lowest : (k p : ℕ) → Lowest k p (lowest k test p)
-  is-lowest zero p =
+  pub is_lowest : (k p : ℕ) → Lowest k p (lowest k test p)
+  is_lowest zero p =
       record { above = omega arith; within = omega arith; passes = λ h. absurd (let l : p < p + 0 = h in omega arith); none = λ q h l. absurd (omega arith) }
-  is-lowest (suc k) p =
+  is_lowest (suc k) p =
       pick-by (Lowest (suc k) p) (test p) p (lowest k test (suc p))
       (λ e. record { above = omega arith; within = omega arith; passes = λ h. e; none = λ q h l. absurd (omega arith) })
       (λ e.
-      let o = is-lowest k (suc p) in
+      let o = is_lowest k (suc p) in
       record {
         above = omega (arith, o.above);
         within = omega (arith, o.within);
@@ -37,13 +37,13 @@ module _ (test : ℕ → Bool) where
       low e o q h l (inr i) = o.none q (omega arith) l
 
   -- ---- of n numbers, from p on
-  pub lowest-next : (n p : ℕ) → p < n → lowest (n - p) test p ≡ cond (test p) p (lowest (n - (p + 1)) test (p + 1))
-  lowest-next n p h =
+  pub lowest_next : (n p : ℕ) → p < n → lowest (n - p) test p ≡ cond (test p) p (lowest (n - (p + 1)) test (p + 1))
+  lowest_next n p h =
       let e : n - p ≡ suc (n - (p + 1)) = omega arith in
       ap (λ (k : ℕ). lowest k test p) e ∙ ap (λ (r : ℕ). cond (test p) p (lowest (n - (p + 1)) test r)) (sym (add-one p))
 
-  pub lowest-none : (n p : ℕ) → n ≤ p → p ≤ n → lowest (n - p) test p ≡ n
-  lowest-none n p h i =
+  pub lowest_none : (n p : ℕ) → n ≤ p → p ≤ n → lowest (n - p) test p ≡ n
+  lowest_none n p h i =
       let e : n - p ≡ 0 = omega arith in
       let d : p ≡ n = omega arith in
       ap (λ (k : ℕ). lowest k test p) e ∙ d

@@ -18,7 +18,7 @@ use Rattle.laws.proofs.Lists.{length-one, all_join, take-padded, test_at}
 use Rattle.laws.proofs.Tests.{less?, pick-by}
 use Rattle.walks.specs.Walks.{Distinct, Cycle, walk}
 use Rattle.walks.proofs.Few.{has_more, has_first, distinct-one, every, few, many, place_in, place-early}
-use Rattle.walks.proofs.WalkLaws.{walk-cycle, walk-enough, no-cycle, cycle-by, cycle-all}
+use Rattle.walks.proofs.WalkLaws.{walk_cycle, walk_enough, no-cycle, cycle-by, cycle-all}
 use Rattle.chart.specs.declared.Answer.{Answer}
 use Rattle.chart.specs.declared.Answer.TheVariants.{Ready, Refused}
 use Rattle.chart.specs.declared.Setting.TheVariants.{Strict}
@@ -36,7 +36,7 @@ use Rattle.graph.proofs.Gathers.{completed-laws}
 use Rattle.signal.specs.Signal.{Sources, is_left, free, lowest, put, listed, first_out, behind, back, back_from, Signalled, ordered, cyclic, signalled_by, sources_in, signalled, completed_of, signals, signal}
 use Rattle.signal.specs.declared.SignalOrder.{SignalOrder}
 use Rattle.signal.specs.Outcome.{outcome_of}
-use Rattle.signal.proofs.Lowest.{Lowest, is-lowest}
+use Rattle.signal.proofs.Lowest.{Lowest, is_lowest}
 use Rattle.signal.specs.Laws.{Leads, Order, nodes_of, Signals, IsSignalOrder}
 
 -- ---- what all of them pass, one passes
@@ -82,13 +82,13 @@ module _ (n : ℕ) (src : Sources) where
               let z : length done ≡ i = omega (arith, length-one done r) in
               subst (λ (j : ℕ). P (take j (done ++ one r)) (get_or (done ++ one r) j 0)) z (rw (take-append_seam done (one r), get_or-append_seam done r [] 0) last)
 
-    free-parts : r < n → (has r done ≡ false) × (all_of (λ q. has q done) (src r) ≡ true)
-    free-parts h = let b = (and-eq-true_iff (not (has r done)) (all_of (λ q. has q done) (src r))).0 (o.passes (omega arith)) in (not-true (has r done) b.0, b.1)
+    free_parts : r < n → (has r done ≡ false) × (all_of (λ q. has q done) (src r) ≡ true)
+    free_parts h = let b = (and-eq-true_iff (not (has r done)) (all_of (λ q. has q done) (src r))).0 (o.passes (omega arith)) in (not-true (has r done) b.0, b.1)
 
     placed : r < n → Listed (suc k) (done ++ one r)
     placed h =
         record {
-          once = distinct-one done r a.once (free-parts h).0;
+          once = distinct-one done r a.once (free_parts h).0;
           inside = all_join (λ p. p < n) done (one r) a.inside (h, tt);
           turns = inl (long a.turns);
           frees = one_more (λ d p. free src d p ≡ true) a.frees (o.passes (omega arith));
@@ -112,11 +112,11 @@ module _ (n : ℕ) (src : Sources) where
     turned : Listed (suc k) (put n done r)
     turned = pick-by (Listed (suc k)) (ltb r n) (done ++ one r) done (λ t. placed (ltb-true r n t)) (λ t. stuck (ltb-false r n t))
 
-  is-listed : Listed n (listed n src n)
+  is_listed : Listed n (listed n src n)
   unfolding listed
-  is-listed =
+  is_listed =
       each_holds Listed (λ i done. put n done (lowest n (free src done) 0)) n
-      (λ k done h a. turned k done a (lowest n (free src done) 0) (is-lowest (free src done) n 0) refl) []
+      (λ k done h a. turned k done a (lowest n (free src done) 0) (is_lowest (free src done) n 0) refl) []
       (record { once = tt; inside = tt; turns = inl refl; frees = λ i h. absurd (not-suc-le-zero h); lows = λ i q h l. absurd (not-suc-le-zero h) }) n (omega arith)
 
   -- p is a source of q
@@ -149,7 +149,7 @@ module _ (n : ℕ) (src : Sources) where
           go (inr e) = e
 
       waits : (p : ℕ) → p < n → free src done p ≡ false
-      waits p h = (is-lowest (free src done) n 0).none p (omega arith) (omega (arith, none_free))
+      waits p h = (is_lowest (free src done) n 0).none p (omega arith) (omega (arith, none_free))
 
       -- a node left has a source left
       source_left : (p : ℕ) → p < n → has p done ≡ false → Out done (src p) (behind src done p)
@@ -172,7 +172,7 @@ module _ (n : ℕ) (src : Sources) where
       some_left = go (less? begin n)
         where
           o : Lowest (is_left done) n 0 begin
-          o = is-lowest (is_left done) n 0
+          o = is_lowest (is_left done) n 0
 
           go : (begin < n) ⊎ (n ≤ begin) → begin < n
           go (inl h) = h
@@ -182,7 +182,7 @@ module _ (n : ℕ) (src : Sources) where
               absurd (short (omega arith))
 
       starts : (begin < n) × (has begin done ≡ false)
-      starts = (some_left, not-true (has begin done) ((is-lowest (is_left done) n 0).passes (let h = some_left in omega arith)))
+      starts = (some_left, not-true (has begin done) ((is_lowest (is_left done) n 0).passes (let h = some_left in omega arith)))
 
       below : (x : ℕ) (rest : List ℕ) → Good (x ∷ rest) → back src done (x ∷ rest) < n
       below x rest g = (aims (behind src done x) x (source_left x g.0 g.1).there).0
@@ -195,12 +195,12 @@ module _ (n : ℕ) (src : Sources) where
 
       shown : Cycle From (back_from n src done)
       unfolding back_from
-      shown = walk-cycle n From (back src done) Good below related goes_on (n - 1) begin starts starts.0 (omega arith)
+      shown = walk_cycle n From (back src done) Good below related goes_on (n - 1) begin starts starts.0 (omega arith)
 
       -- the walk back ends by itself: no bound is used up
-      pub back-enough : (more : ℕ) → walk (back src done) (n - 1 + more) (one begin) ≡ back_from n src done
+      pub back_enough : (more : ℕ) → walk (back src done) (n - 1 + more) (one begin) ≡ back_from n src done
       unfolding back_from
-      back-enough more = walk-enough n From (back src done) Good below related goes_on more (n - 1) begin starts starts.0 (omega arith)
+      back_enough more = walk_enough n From (back src done) Good below related goes_on more (n - 1) begin starts starts.0 (omega arith)
 
     -- ---- an order, or a cycle
     record Told (r : Signalled) : Type 0 where
@@ -209,8 +209,8 @@ module _ (n : ℕ) (src : Sources) where
     tells : Told (signalled_by n src)
     tells =
         pick-by Told (eqb (length done) n) (ordered done) (cyclic (back_from n src done))
-        (λ e. record { told = inl (done, refl, is-listed, eqb-true (length done) n e) })
-        (λ e. record { told = inr (back_from n src done, refl, shown done is-listed (eqb-false (length done) n e)) })
+        (λ e. record { told = inl (done, refl, is_listed, eqb-true (length done) n e) })
+        (λ e. record { told = inr (back_from n src done, refl, shown done is_listed (eqb-false (length done) n e)) })
       where
         done : List ℕ
         done = listed n src n

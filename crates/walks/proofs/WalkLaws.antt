@@ -115,8 +115,8 @@ module _ (n : ℕ) (E : ℕ → ℕ → Type 0) (next : List ℕ → ℕ) (Good 
       by (inl e) f = ended (suc d + more) (x ∷ rest) e ∙ sym (ended (suc d) (x ∷ rest) e)
       by (inr e) f = ap (λ (k : ℕ). walk next k (x ∷ rest)) further ∙ goes (d + more) (x ∷ rest) e ∙ f e ∙ sym (goes d (x ∷ rest) e)
 
-  pub walk-enough : (more d x : ℕ) → Good (x ∷ []) → x < n → n ≤ suc d → walk next (d + more) (x ∷ []) ≡ walk next d (x ∷ [])
-  walk-enough more d x g h l = enough more d x [] (record { good = g; distinct = (refl, tt); inside = (h, tt); chain = tt }) (omega arith)
+  pub walk_enough : (more d x : ℕ) → Good (x ∷ []) → x < n → n ≤ suc d → walk next (d + more) (x ∷ []) ≡ walk next d (x ∷ [])
+  walk_enough more d x g h l = enough more d x [] (record { good = g; distinct = (refl, tt); inside = (h, tt); chain = tt }) (omega arith)
 
   met_cycle : (r : List ℕ) → Met r → Cycle E r
   met_cycle r m =
@@ -127,8 +127,8 @@ module _ (n : ℕ) (E : ℕ → ℕ → Type 0) (next : List ℕ → ℕ) (Good 
       })
 
   -- from one good node: distinct nodes that close a cycle
-  pub walk-cycle : (d x : ℕ) → Good (x ∷ []) → x < n → n ≤ suc d → Cycle E (walk next d (x ∷ []))
-  walk-cycle d x g h l = met_cycle (walk next d (x ∷ [])) (meets d x [] (record { good = g; distinct = (refl, tt); inside = (h, tt); chain = tt }) (omega arith))
+  pub walk_cycle : (d x : ℕ) → Good (x ∷ []) → x < n → n ≤ suc d → Cycle E (walk next d (x ∷ []))
+  walk_cycle d x g h l = met_cycle (walk next d (x ∷ [])) (meets d x [] (record { good = g; distinct = (refl, tt); inside = (h, tt); chain = tt }) (omega arith))
 
 -- ---- no cycle where a rank rises along each step
 module _ (E : ℕ → ℕ → Type 0) (rank : ℕ → ℕ) (rises : (x y : ℕ) → E x y → rank x < rank y) where

@@ -105,7 +105,7 @@ roomy q =
     z.args.cut h.cut-cycles.result.ok h.cut-cycles.result.tables h.cut-cycles.ensures (went q)
 
 finished-requires : tie.Need-finished-requires
-finished-requires c κs = let s = roomy c.before in (s.linked.nodes, (s.linked.source-room, s.linked.sink-room))
+finished-requires c κs = let s = roomy c.before in (s.linked.nodes, (s.linked.source-room, s.linked.sink_room))
 
 returns-3 : tie.Need-returns-3
 returns-3 c =

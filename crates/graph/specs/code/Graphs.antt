@@ -48,9 +48,9 @@ Name m = (m ≡ 512 → ⊥) → (m < 32) ⊎ ((256 < m) × (m < 512))
 -- a mark is held as 88 at most, and a name is 512, a given node's number, or 256 and a target that is 1 to 255
 pub record Sound (t : Tables) : Type 0 where
   pub linked : Linked t
-  pub line-room : t.lines.count ≤ 128
+  pub line_room : t.lines.count ≤ 128
   pub source_marks : All (λ (x : Item). x.mark ≤ 88) (items_of t.sources)
-  pub sink-marks : All (λ (x : Item). x.mark ≡ 0) (items_of t.sinks)
+  pub sink_marks : All (λ (x : Item). x.mark ≡ 0) (items_of t.sinks)
   pub names : All Name t.names
 
 -- what the crates above take of the graph of the chart s in the setting w: it follows from `IsGraph` (`graphs-of` of proofs/Tabled)
@@ -89,8 +89,8 @@ staged cut (refused number second) = refusal number second
 pub record Held (b : BoardTables) : Type 0 where
   pub setting : Setting
   pub sound : SoundBoard b
-  pub chart-bytes : List ℕ
-  pub read : chart setting chart-bytes ≡ accepted (board_of b)
+  pub chart_bytes : List ℕ
+  pub read : chart setting chart_bytes ≡ accepted (board_of b)
   pub whole : b ≡ board_tables (length (board_of b)) (board_of b)
 
 -- r holds the graph that the board b gives

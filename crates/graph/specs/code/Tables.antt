@@ -77,21 +77,21 @@ Texted n = All (λ x. x.owner < n)
 pub record Owned (t : Tables) : Type 0 where
   pub nodes : t.n ≤ 48
   pub source_room : t.sources.count ≤ 88
-  pub sink-room : t.sinks.count ≤ 88
+  pub sink_room : t.sinks.count ≤ 88
   pub source_owners : Below t.n (items_of t.sources)
-  pub sink-owners : Below t.n (items_of t.sinks)
-  pub line-owners : Texted t.n (texts_of t.lines)
+  pub sink_owners : Below t.n (items_of t.sinks)
+  pub line_owners : Texted t.n (texts_of t.lines)
 
 -- the counts are within the arrays, each owner and each target is a node
 pub record Linked (t : Tables) : Type 0 where
   pub nodes : t.n ≤ 48
   pub source_room : t.sources.count ≤ 88
-  pub sink-room : t.sinks.count ≤ 88
+  pub sink_room : t.sinks.count ≤ 88
   pub source_owners : Below t.n (items_of t.sources)
-  pub sink-owners : Below t.n (items_of t.sinks)
+  pub sink_owners : Below t.n (items_of t.sinks)
   pub source_aims : Aimed t.n (items_of t.sources)
-  pub sink-aims : Aimed t.n (items_of t.sinks)
-  pub line-owners : Texted t.n (texts_of t.lines)
+  pub sink_aims : Aimed t.n (items_of t.sinks)
+  pub line_owners : Texted t.n (texts_of t.lines)
 
 -- ---- the records
 
@@ -193,8 +193,8 @@ pub record Charted (t : Tables) : Type 0 where
   pub nodes : t.n ≤ 32
   pub room : t.sources.count + t.sinks.count ≤ 64
   pub source_owners : Below t.n (items_of t.sources)
-  pub sink-owners : Below t.n (items_of t.sinks)
-  pub line-owners : Texted t.n (texts_of t.lines)
+  pub sink_owners : Below t.n (items_of t.sinks)
+  pub line_owners : Texted t.n (texts_of t.lines)
   pub bare : Bare (items_of t.sources)
   pub names : t.names ≡ replicate 48 512
 
@@ -202,7 +202,7 @@ pub record Charted (t : Tables) : Type 0 where
 pub record Roomy (t : Tables) : Type 0 where
   pub linked : Linked t
   pub source_room : 2 * t.sources.count + 48 ≤ 176 + t.n
-  pub sink-room : 2 * t.sinks.count + 48 ≤ 176 + t.n
+  pub sink_room : 2 * t.sinks.count + 48 ≤ 176 + t.n
   pub blank : (k : ℕ) → t.n ≤ k → k < 48 → get_or t.names k 0 ≡ 512
 
 -- tables to be joined or cut: the nodes past the last have no line
@@ -215,7 +215,7 @@ pub record Completed (t r : Tables) : Type 0 where
   pub graph : graph_of r ≡ complete (graph_of t)
   pub same : SameBut t r
   pub source_count_lem : r.sources.count ≤ 64
-  pub sink-count : r.sinks.count ≤ 64
+  pub sink_count : r.sinks.count ≤ 64
   pub standing : Standing r
 
 -- r is t where source j of p, record k, has its sink; the record is then held with the mark m
@@ -226,7 +226,7 @@ pub record SinkGained (t : Tables) (p j k : ℕ) (r : Tables) : Type 0 where
   pub linked : Owned r
   pub same : SameBut t r
   pub source_count_lem : r.sources.count ≡ t.sources.count
-  pub sink-count : r.sinks.count ≤ t.sinks.count + 1
+  pub sink_count : r.sinks.count ≤ t.sinks.count + 1
   pub m : ℕ
   pub marks : items_of r.sources ≡ set (items_of t.sources) k (mark_item m (get_or (items_of t.sources) k no_item))
   pub fits : (g : ℕ) → Fit g t → Fit g r × (take g (items_of r.sinks) ≡ take g (items_of t.sinks))

@@ -108,4 +108,4 @@ AllModest g n = (p : ℕ) → p < n → Modest (render_of (node_at g p))
 -- the tables of a graph that can be laid: they are linked, and the lines are within their array
 pub record Seated (g : Tables) : Type 0 where
   pub linked : Linked g
-  pub line-room : g.lines.count ≤ 128
+  pub line_room : g.lines.count ≤ 128

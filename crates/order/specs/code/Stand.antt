@@ -10,8 +10,8 @@ use Rattle.order.specs.code.Held.{colour_at, place_at, length_at, first_at}
 pub record Tops (n : ℕ) (cs : Chains) (ls : List ℕ) (fs : List NodeNumber) : Type 0 where
   pub size : length cs ≡ n
   pub few : n ≤ 48
-  pub lengths-long : length ls ≡ 48
-  pub firsts-long : length fs ≡ 48
+  pub lengths_long : length ls ≡ 48
+  pub firsts_long : length fs ≡ 48
   pub lengths : (k : ℕ) → k < n → length_at ls k ≡ length (chain cs k)
   pub firsts : (k : ℕ) → k < n → first_at fs k ≡ get_or (chain cs k) 0 0
 
@@ -29,7 +29,7 @@ pub record Has (n : ℕ) (h : Held) (k i r : ℕ) : Type 0 where
 
 pub record Stand (n : ℕ) (cs : Chains) (h : Held) : Type 0 where
   pub tops : Tops n cs h.lengths h.firsts
-  pub colours-long : length h.colours ≡ 48
-  pub places-long : length h.places ≡ 48
+  pub colours_long : length h.colours ≡ 48
+  pub places_long : length h.places ≡ 48
   pub at : (p : ℕ) → p < n → At n cs h p
   pub has : (k i : ℕ) → k < n → i < length (chain cs k) → Has n h k i (get_or (chain cs k) i 0)

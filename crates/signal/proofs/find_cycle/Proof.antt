@@ -9,7 +9,7 @@ use Rattle.laws.specs.Lists.{has}
 use Rattle.signal.specs.Signal.{is_left}
 use Rattle.signal.specs.code.Nodes.{sources_of, list_of}
 use Rattle.signal.proofs.Codes.{Back, back-first, back_on, back_met, back_end}
-use Rattle.signal.proofs.Lowest.{is-lowest}
+use Rattle.signal.proofs.Lowest.{is_lowest}
 use borrow.Author.Rules.{rules}
 use Rattle.signal.proofs.find_cycle.Statement.{statement}
 use Rattle.signal.proofs.find_cycle.Tie as tie
@@ -24,7 +24,7 @@ first-left-requires : tie.Need-first-left-requires invariant-loop decreases-loop
 first-left-requires c κs = search rules
 
 cast-first : tie.Need-overflow-cast-first invariant-loop decreases-loop
-cast-first c = let a = c.before.args in let h = (is-lowest (is_left (take a.done a.nodes.now)) a.n 0).within in let e = c.first-left.ensures in omega arith
+cast-first c = let a = c.before.args in let h = (is_lowest (is_left (take a.done a.nodes.now)) a.n 0).within in let e = c.first-left.ensures in omega arith
 
 array-write-path : tie.Need-array-write-path invariant-loop decreases-loop
 array-write-path c = search rules

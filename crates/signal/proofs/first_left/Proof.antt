@@ -8,7 +8,7 @@ use lib.ListN.{take}
 use Rattle.laws.specs.Lists.{has}
 use Rattle.signal.specs.Signal.{is_left, lowest}
 use borrow.Author.Tests.{not-true, not-false}
-use Rattle.signal.proofs.Lowest.{lowest-next, lowest-none}
+use Rattle.signal.proofs.Lowest.{lowest_next, lowest_none}
 use borrow.Author.Rules.{rules}
 use Rattle.signal.proofs.first_left.Statement.{statement}
 use Rattle.signal.proofs.first_left.Tie as tie
@@ -34,7 +34,7 @@ returns c =
     let l = c.before.before.before.loop in
     let d = take a.done a.nodes.now in
     let e : has l.q d ≡ false = sym c.before.is-in.ensures ∙ not-true c.before.is-in.result c.if1.true in
-    sym (l.invariant.1 ∙ lowest-next (is_left d) a.n l.q (omega arith) ∙ rw e)
+    sym (l.invariant.1 ∙ lowest_next (is_left d) a.n l.q (omega arith) ∙ rw e)
 
 add-q : tie.Need-overflow-add-q invariant-loop decreases-loop
 add-q c = search rules
@@ -48,13 +48,13 @@ loop-again c =
     let l = c.before.before.before.loop in
     let d = take a.done a.nodes.now in
     let e : has l.q d ≡ true = sym c.before.is-in.ensures ∙ not-false c.before.is-in.result c.if1.false in
-    (omega arith, l.invariant.1 ∙ lowest-next (is_left d) a.n l.q (omega arith) ∙ rw e)
+    (omega arith, l.invariant.1 ∙ lowest_next (is_left d) a.n l.q (omega arith) ∙ rw e)
 
 returns-2 : tie.Need-returns-2 invariant-loop decreases-loop
 returns-2 c =
     let a = c.before.before.args in
     let l = c.before.loop in
-    sym (l.invariant.1 ∙ lowest-none (is_left (take a.done a.nodes.now)) a.n l.q (omega arith) l.invariant.0)
+    sym (l.invariant.1 ∙ lowest_none (is_left (take a.done a.nodes.now)) a.n l.q (omega arith) l.invariant.0)
 
 pub first-left-spec : {M : Type 1} → statement M
 first-left-spec =

@@ -7,7 +7,7 @@ use mathlib.Core.Bool.{true, false}
 use lib.ListN.{take}
 use Rattle.signal.specs.Signal.{free, lowest}
 use Rattle.signal.specs.code.Nodes.{sources_of}
-use Rattle.signal.proofs.Lowest.{lowest-next, lowest-none}
+use Rattle.signal.proofs.Lowest.{lowest_next, lowest_none}
 use borrow.Author.Rules.{rules}
 use Rattle.signal.proofs.lowest_free.Statement.{statement}
 use Rattle.signal.proofs.lowest_free.Tie as tie
@@ -34,7 +34,7 @@ returns c =
     let d = take a.done a.nodes.now in
     let s = sources_of a.owner.now a.to.now a.count in
     let e : free s d l.p ≡ true = sym c.before.is_free.ensures ∙ c.if1.true in
-    sym (l.invariant.0 ∙ lowest-next (free s d) a.n l.p (omega arith) ∙ rw e)
+    sym (l.invariant.0 ∙ lowest_next (free s d) a.n l.p (omega arith) ∙ rw e)
 
 add-p : tie.Need-overflow-add-p invariant-loop decreases-loop
 add-p c = search rules
@@ -49,13 +49,13 @@ loop-again c =
     let d = take a.done a.nodes.now in
     let s = sources_of a.owner.now a.to.now a.count in
     let e : free s d l.p ≡ false = sym c.before.is_free.ensures ∙ c.if1.false in
-    (l.invariant.0 ∙ lowest-next (free s d) a.n l.p (omega arith) ∙ rw e, omega arith)
+    (l.invariant.0 ∙ lowest_next (free s d) a.n l.p (omega arith) ∙ rw e, omega arith)
 
 returns-2 : tie.Need-returns-2 invariant-loop decreases-loop
 returns-2 c =
     let a = c.before.before.args in
     let l = c.before.loop in
-    sym (l.invariant.0 ∙ lowest-none (free (sources_of a.owner.now a.to.now a.count) (take a.done a.nodes.now)) a.n l.p (omega arith) l.invariant.1)
+    sym (l.invariant.0 ∙ lowest_none (free (sources_of a.owner.now a.to.now a.count) (take a.done a.nodes.now)) a.n l.p (omega arith) l.invariant.1)
 
 pub lowest-free-spec : {M : Type 1} → statement M
 lowest-free-spec =

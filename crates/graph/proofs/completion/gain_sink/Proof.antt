@@ -61,8 +61,8 @@ add-marked c =
       arith,
       c.count-owned.ensures,
       owned_le (get_or z.args.t.sources.items z.args.k no_item).to (items_of z.args.t.sinks),
-      table-size z.args.t.sinks (sinks-long z) z.requires.0.sink-room,
-      z.requires.0.sink-room,
+      table-size z.args.t.sinks (sinks-long z) z.requires.0.sink_room,
+      z.requires.0.sink_room,
     )
 
 marked-requires : tie.Need-marked-requires

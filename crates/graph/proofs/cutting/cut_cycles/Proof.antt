@@ -124,7 +124,7 @@ module _ (h : tie.At-loop2 invariant-loop2 decreases-loop2 invariant-loop decrea
   depth-in = omega (arith, h.loop2.inv.1.room, small start)
 
   sinks-fit : h.loop2.sinks.count ≤ 88
-  sinks-fit = h.loop2.inv.1.sound.linked.sink-room
+  sinks-fit = h.loop2.inv.1.sound.linked.sink_room
 
 -- a step's frame, and the record of its next sink
 module _ (h : tie.After-found invariant-loop2 decreases-loop2 invariant-loop decreases-loop) where
@@ -378,7 +378,7 @@ cut-sinks-requires : tie.Need-cut-sinks-requires invariant-loop2 decreases-loop2
 cut-sinks-requires c κs =
     let h = c.before.before.before.before.before.before.before.before in
     let r = (walk h).loop2.invariant.1.sound in
-    (omega (arith, r.sink-room, c.before.if4.false), (k-in h, omega (arith, c.before.if4.false)))
+    (omega (arith, r.sink_room, c.before.if4.false), (k-in h, omega (arith, c.before.if4.false)))
 
 add-last : tie.Need-overflow-add-last invariant-loop2 decreases-loop2 invariant-loop decreases-loop
 add-last c = search rules

@@ -23,10 +23,10 @@ module _ (z : tie.Start) where
   sources-few = omega (arith, far_le z.args.t.n (items_of z.args.t.sources), table-size z.args.t.sources sources-long z.pre.owned.source-room, z.pre.owned.source-room)
 
   sinks-few : length (far z.args.t.n (items_of z.args.t.sinks)) ≤ 88
-  sinks-few = omega (arith, far_le z.args.t.n (items_of z.args.t.sinks), table-size z.args.t.sinks sinks-long z.pre.owned.sink-room, z.pre.owned.sink-room)
+  sinks-few = omega (arith, far_le z.args.t.n (items_of z.args.t.sinks), table-size z.args.t.sinks sinks-long z.pre.owned.sink_room, z.pre.owned.sink_room)
 
 count-far-requires : tie.Need-count-far-requires
-count-far-requires c κs = c.before.before.requires.owned.sink-room
+count-far-requires c κs = c.before.before.requires.owned.sink_room
 
 count-far-requires-2 : tie.Need-count-far-requires-2
 count-far-requires-2 c κs = c.before.before.before.requires.owned.source-room
@@ -38,7 +38,7 @@ returns : tie.Need-returns
 returns c =
     let z = c.before.before.before.before in
     let t = z.args.t in (
-      omega (arith, c.count-far2.ensures, c.before.count-far.ensures, leads-held t.n t.n (lines_of t) (items_of t.sources) (items_of t.sinks) z.requires.owned.source-owners z.requires.owned.sink-owners),
+      omega (arith, c.count-far2.ensures, c.before.count-far.ensures, leads-held t.n t.n (lines_of t) (items_of t.sources) (items_of t.sinks) z.requires.owned.source-owners z.requires.owned.sink_owners),
       omega (arith, c.count-far2.ensures, c.before.count-far.ensures, sources-few z, sinks-few z),
     )
 

@@ -12,8 +12,8 @@ use Rattle.graph.specs.Joining.{join_sink, join_sinks}
 use Rattle.graph.specs.Outcome.{no_item}
 use Rattle.graph.specs.code.Tables.{items_of, graph_of, lines_of, Fits, owned}
 use Rattle.graph.proofs.Lists.{node-graph}
-use Rattle.graph.proofs.Boxes.{Going, going-first, going_end}
-use Rattle.graph.proofs.BoxTurns.{with, sinks-other, sinks-number, sinks-kept, sinks-room, sinks-joined}
+use Rattle.graph.proofs.Boxes.{Going, going_first, going_end}
+use Rattle.graph.proofs.BoxTurns.{with, sinks-other, sinks-number, sinks-kept, sinks_room, sinks_joined}
 use Rattle.graph.proofs.joining.join_sinks.Statement.{statement}
 use Rattle.graph.proofs.joining.join_sinks.Tie as tie
 
@@ -41,7 +41,7 @@ module _ (z : tie.Start invariant-loop decreases-loop) where
       rw (node-graph t.n (lines_of t) (items_of t.sources) (items_of t.sinks) z.args.p z.pre.1.0) at z.pre.1.1
 
   begins : Going (λ u. u.sinks) (join_sink z.args.n) (join_sinks z.args.n) z.args.t z.args.p z.args.t 0 0
-  begins = going-first (λ u. u.sinks) (join_sink z.args.n) (join_sinks z.args.n) z.args.t z.args.p z.pre.0
+  begins = going_first (λ u. u.sinks) (join_sink z.args.n) (join_sinks z.args.n) z.args.t z.args.p z.pre.0
 
 -- a turn
 module _ (a : tie.In-loop invariant-loop decreases-loop) where
@@ -67,7 +67,7 @@ module _ (a : tie.In-loop invariant-loop decreases-loop) where
   other-long = a.before.loop.inv.1
 
   few : s.sinks.count ≤ 88
-  few = going.standing.owned.sink-room
+  few = going.standing.owned.sink_room
 
   passed : (e.owner ≡ start.args.p → ⊥) → Going (λ u. u.sinks) (join_sink start.args.n) (join_sinks start.args.n) t start.args.p s a.before.loop.i (a.before.loop.k + 1)
   passed = sinks-other t start.args.n start.args.p start.pre.1.0 (fits start) s long other-long a.before.loop.i a.before.loop.k going a.loop-test.taken
@@ -79,7 +79,7 @@ module _ (a : tie.In-loop invariant-loop decreases-loop) where
   kept = sinks-kept t start.args.n start.args.p start.pre.1.0 (fits start) s long other-long a.before.loop.i a.before.loop.k going a.loop-test.taken
 
   room : e.owner ≡ start.args.p → start.args.n ≤ e.to → (s.n < 48) × (s.sources.count < 88)
-  room = sinks-room t start.args.n start.args.p start.pre.1.0 (fits start) s long other-long a.before.loop.i a.before.loop.k going a.loop-test.taken
+  room = sinks_room t start.args.n start.args.p start.pre.1.0 (fits start) s long other-long a.before.loop.i a.before.loop.k going a.loop-test.taken
 
 loop-holds : tie.Need-loop-init invariant-loop decreases-loop
 loop-holds c = let z = c.before.before.before in (names-long z, sources-long z, sinks-long z, begins z)
@@ -174,7 +174,7 @@ loop-again-3 c =
       simp length-set a.before.loop.inv.0,
       pushed_long c,
       pointed-long c,
-      sinks-joined (t a) (start a).args.n (start a).args.p (start a).pre.1.0 (fits (start a)) (s a) (long a) (other-long a) a.before.loop.i a.before.loop.k (going a) a.loop-test.taken (own q) q.if2.false a.before.loop.inv.0 byte c.before.before.push.result c.before.point.result (rw c.before.before.before.source_of.ensures at made.items) c.before.point.ensures.0 made.count c.before.point.ensures.1,
+      sinks_joined (t a) (start a).args.n (start a).args.p (start a).pre.1.0 (fits (start a)) (s a) (long a) (other-long a) a.before.loop.i a.before.loop.k (going a) a.loop-test.taken (own q) q.if2.false a.before.loop.inv.0 byte c.before.before.push.result c.before.point.result (rw c.before.before.before.source_of.ensures at made.items) c.before.point.ensures.0 made.count c.before.point.ensures.1,
     )
 
 returns : tie.Need-returns invariant-loop decreases-loop
@@ -188,7 +188,7 @@ returns c =
     record {
       graph =
           rw (node-graph u.n (lines_of u) (items_of u.sources) (items_of u.sinks) z.args.p z.requires.1.0)
-          (going_end (λ u. u.sinks) (join_sink z.args.n) (join_sinks z.args.n) (λ g p i e es. refl) u z.args.p v l.invariant.2 w.standing.owned.sink-room l.i l.k w h.loop-test.false);
+          (going_end (λ u. u.sinks) (join_sink z.args.n) (join_sinks z.args.n) (λ g p i e es. refl) u z.args.p v l.invariant.2 w.standing.owned.sink_room l.i l.k w h.loop-test.false);
       standing = w.standing;
       cuts = refl;
       lines = refl;

@@ -12,8 +12,8 @@ use Rattle.graph.specs.Joining.{join_source, join_sources}
 use Rattle.graph.specs.Outcome.{no_item}
 use Rattle.graph.specs.code.Tables.{items_of, graph_of, lines_of, Fits, owned}
 use Rattle.graph.proofs.Lists.{node-graph}
-use Rattle.graph.proofs.Boxes.{Going, going-first, going_end}
-use Rattle.graph.proofs.BoxTurns.{with, sources-other, sources-kept, sources-room, sources-joined}
+use Rattle.graph.proofs.Boxes.{Going, going_first, going_end}
+use Rattle.graph.proofs.BoxTurns.{with, sources-other, sources_kept, sources-room, sources_joined}
 use Rattle.graph.proofs.joining.join_sources.Statement.{statement}
 use Rattle.graph.proofs.joining.join_sources.Tie as tie
 
@@ -41,7 +41,7 @@ module _ (z : tie.Start invariant-loop decreases-loop) where
       rw (node-graph t.n (lines_of t) (items_of t.sources) (items_of t.sinks) z.args.p z.pre.1.0) at z.pre.1.1
 
   begins : Going (λ u. u.sources) (join_source z.args.n) (join_sources z.args.n) z.args.t z.args.p z.args.t 0 0
-  begins = going-first (λ u. u.sources) (join_source z.args.n) (join_sources z.args.n) z.args.t z.args.p z.pre.0
+  begins = going_first (λ u. u.sources) (join_source z.args.n) (join_sources z.args.n) z.args.t z.args.p z.pre.0
 
 -- a turn
 module _ (a : tie.In-loop invariant-loop decreases-loop) where
@@ -73,7 +73,7 @@ module _ (a : tie.In-loop invariant-loop decreases-loop) where
   passed = sources-other t start.args.n start.args.p start.pre.1.0 (fits start) s long other-long a.before.loop.inv.3.0 a.before.loop.k going a.loop-test.taken
 
   kept : e.owner ≡ start.args.p → e.to < start.args.n → Going (λ u. u.sources) (join_source start.args.n) (join_sources start.args.n) t start.args.p s (a.before.loop.inv.3.0 + 1) (a.before.loop.k + 1)
-  kept = sources-kept t start.args.n start.args.p start.pre.1.0 (fits start) s long other-long a.before.loop.inv.3.0 a.before.loop.k going a.loop-test.taken
+  kept = sources_kept t start.args.n start.args.p start.pre.1.0 (fits start) s long other-long a.before.loop.inv.3.0 a.before.loop.k going a.loop-test.taken
 
   room : e.owner ≡ start.args.p → start.args.n ≤ e.to → (s.n < 48) × (s.sinks.count < 88)
   room = sources-room t start.args.n start.args.p start.pre.1.0 (fits start) s long other-long a.before.loop.inv.3.0 a.before.loop.k going a.loop-test.taken
@@ -168,7 +168,7 @@ loop-again-3 c =
       simp length-set a.before.loop.inv.0,
       pointed-long c,
       pushed_long c,
-      (_, sources-joined (t a) (start a).args.n (start a).args.p (start a).pre.1.0 (fits (start a)) (s a) (long a) (other-long a) a.before.loop.inv.3.0 a.before.loop.k (going a) a.loop-test.taken (own q) q.if2.false a.before.loop.inv.0 byte c.before.before.push.result c.before.point.result (rw c.before.before.before.sink-of.ensures at made.items) c.before.point.ensures.0 made.count c.before.point.ensures.1),
+      (_, sources_joined (t a) (start a).args.n (start a).args.p (start a).pre.1.0 (fits (start a)) (s a) (long a) (other-long a) a.before.loop.inv.3.0 a.before.loop.k (going a) a.loop-test.taken (own q) q.if2.false a.before.loop.inv.0 byte c.before.before.push.result c.before.point.result (rw c.before.before.before.sink-of.ensures at made.items) c.before.point.ensures.0 made.count c.before.point.ensures.1),
     )
 
 returns : tie.Need-returns invariant-loop decreases-loop

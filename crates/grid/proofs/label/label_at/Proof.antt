@@ -43,7 +43,7 @@ add-line-label-3 : tie.Need-overflow-add-line-label-3
 add-line-label-3 c = omega (arith, c.before.before.before.before.before.before.before.before.before.node_of.ensures.1.center-y, c.before.before.before.before.before.before.before.before.before.before.requires.1.1.1)
 
 line-label-requires : tie.Need-line-label-requires
-line-label-requires c κs = (c.before.before.before.before.before.before.before.before.before.before.requires.0.line-room, omega (arith, c.before.before.before.before.before.before.before.before.before.node_of.ensures.1.center-y, c.before.before.before.before.before.before.before.before.before.before.requires.1.1.1))
+line-label-requires c κs = (c.before.before.before.before.before.before.before.before.before.before.requires.0.line_room, omega (arith, c.before.before.before.before.before.before.before.before.before.node_of.ensures.1.center-y, c.before.before.before.before.before.before.before.before.before.before.requires.1.1.1))
 
 returns-2 : tie.Need-returns-2
 returns-2 c = let z = c.before.before.before.before.before.before.before.before.before.before.before.before.before in label_second z.args.g z.args.p z.requires.1.0 z.args.x z.args.y z.args.i c.before.before.before.before.before.before.before.before.before.before.before.before.node_of.result c.before.before.before.before.before.before.before.before.before.before.before.before.node_of.ensures.0 c.before.before.before.before.before.before.before.before.end-label.result c.before.before.before.before.before.before.before.before.end-label.ensures c.before.before.before.before.before.before.before.if1.false c.before.before.line-label.result c.before.before.line-label.ensures c.before.if2.true
@@ -58,7 +58,7 @@ add-t16 : tie.Need-overflow-add-t16
 add-t16 c = omega (arith, c.before.before.before.before.before.before.before.before.before.before.before.before.before.before.node_of.ensures.1.output-height, c.before.before.before.before.before.before.before.before.before.before.before.before.before.before.before.requires.1.1.1)
 
 end-label-requires-2 : tie.Need-end-label-requires-2
-end-label-requires-2 c κs = (c.before.before.before.before.before.before.before.before.before.before.before.before.before.before.before.requires.0.linked.sink-room, record { first = omega (arith, c.before.before.before.before.before.before.before.before.before.before.before.before.before.before.node_of.ensures.1.first-output, c.before.before.before.before.before.before.before.before.before.before.before.before.before.before.before.requires.1.1.0); gap = omega (arith, c.before.before.before.before.before.before.before.before.before.before.before.before.before.before.node_of.ensures.1.output-gap) })
+end-label-requires-2 c κs = (c.before.before.before.before.before.before.before.before.before.before.before.before.before.before.before.requires.0.linked.sink_room, record { first = omega (arith, c.before.before.before.before.before.before.before.before.before.before.before.before.before.before.node_of.ensures.1.first-output, c.before.before.before.before.before.before.before.before.before.before.before.before.before.before.before.requires.1.1.0); gap = omega (arith, c.before.before.before.before.before.before.before.before.before.before.before.before.before.before.node_of.ensures.1.output-gap) })
 
 returns-3 : tie.Need-returns-3
 returns-3 c = let z = c.before.before.before.before.before.before.before.before.before.before.before.before.before.before.before.before.before in label_third z.args.g z.args.p z.requires.1.0 z.args.x z.args.y z.args.i c.before.before.before.before.before.before.before.before.before.before.before.before.before.before.before.before.node_of.result c.before.before.before.before.before.before.before.before.before.before.before.before.before.before.before.before.node_of.ensures.0 c.before.before.before.before.before.before.before.before.before.before.before.before.end-label.result c.before.before.before.before.before.before.before.before.before.before.before.before.end-label.ensures c.before.before.before.before.before.before.before.before.before.before.before.if1.false c.before.before.before.before.before.before.line-label.result c.before.before.before.before.before.before.line-label.ensures c.before.before.before.before.before.if2.false c.before.end-label2.result c.before.end-label2.ensures

@@ -8,7 +8,7 @@ no-box-requires : tie.Need-no-box-requires
 no-box-requires c κs = search rules
 
 returns : tie.Need-returns
-returns c = rw c.no-box.ensures
+returns c = rw c.no_box.ensures
 
 pub refused-box-spec : {M : Type 1} → statement M
 refused-box-spec = tie.close (tie.spec no-box-requires returns)

@@ -35,7 +35,7 @@ no-box-requires : tie.Need-no-box-requires invariant-loop decreases-loop
 no-box-requires c κs = search rules
 
 loop-holds : tie.Need-loop-init invariant-loop decreases-loop
-loop-holds c = (search rules, rw c.no-box.ensures)
+loop-holds c = (search rules, rw c.no_box.ensures)
 
 element-copy-out-c : tie.Need-element-copy-out-c invariant-loop decreases-loop
 element-copy-out-c c = search rules

@@ -135,7 +135,7 @@ all-curves-requires : tie.Need-all-curves-requires
 all-curves-requires c κs =
     let b = c.before.before.before.before.before in
     let k = (z (a b)).pre.0.linked in
-    (k.nodes, (k.source-room, (k.sink-room, (inputs-small b, (outputs-small b, k.source-aims)))))
+    (k.nodes, (k.source-room, (k.sink_room, (inputs-small b, (outputs-small b, k.source-aims)))))
 
 box-records-requires : tie.Need-box-records-requires
 box-records-requires c κs =

@@ -1,0 +1,15 @@
+-- `completion::complete_sinks`: each turn keeps what is left to do, by the laws of `Gains`.
+-- Assumes nothing.
+use Prim.Native.Nat.{◌-◌}
+use mathlib.Core.Path.{◌≡◌, refl}
+use native.Mathlib.Omega.{arith}
+use lib.ListN.{length}
+use Rattle.laws.proofs.Lists.{mapped_long}
+use Rattle.graph.proofs.Lefts.{Left, left_end, left_other, left-own}
+use Rattle.graph.proofs.completion.complete_sinks.Given as goal
+
+abbrev pub invariant-loop-k : goal.invariant-loop-k
+invariant-loop-k l = Left l.given l.t l.p l.sources l.i l.k
+
+abbrev pub decreases-loop-k : goal.decreases-loop-k
+decreases-loop-k l = l.t.sinks.count - l.k

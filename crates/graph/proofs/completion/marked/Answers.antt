@@ -1,0 +1,23 @@
+-- `completion::marked`: a store within the first records.
+-- Assumes nothing.
+use mathlib.Core.Path.{◌≡◌, refl}
+use lib.ListN.{length, get_or}
+use lib.Seq.{take-set-lt}
+use Rattle.laws.proofs.Lists.{mapped_long}
+use Rattle.graph.specs.code.Tables.{mark_item}
+use Rattle.graph.specs.Outcome.{no_item}
+use Rattle.graph.proofs.Lists.{table_at}
+use borrow.Author.Rules.{rules}
+use Rattle.graph.proofs.completion.marked.Goals as goal
+use Rattle.graph.proofs.completion.marked.Goals.{Start}
+
+long : (z : Start) → length z.args.t.items ≡ 88
+long z = search (rules, mapped_long)
+
+pub returns : goal.returns
+returns c =
+    (
+      rw (table_at c.args.t (long (goal.at.returns c).Start) c.requires.count_bound c.args.k c.requires.k_lt_count)
+          (take-set-lt c.args.t.count c.args.t.items c.args.k (mark_item c.args.m (get_or c.args.t.items c.args.k no_item)) c.requires.k_lt_count),
+      refl,
+    )

@@ -1,0 +1,17 @@
+-- `cutting::find_sink`: j counts the records of c among the first k.
+-- Assumes nothing.
+use Prim.Native.Nat.{ℕ, ◌+◌, ◌-◌, ◌≤◌, ◌<◌}
+use mathlib.Core.Path.{◌≡◌, refl, ◌∙◌, sym, ap}
+use lib.ListN.{length, take}
+use lib.Seq.{take_all}
+use Rattle.laws.proofs.Lists.{mapped_long}
+use Rattle.graph.specs.code.Tables.{owned, items_of}
+use Rattle.graph.proofs.Lists.{table-size, table_at}
+use Rattle.graph.proofs.Cuts.{counted-own, counted-other}
+use Rattle.graph.proofs.cutting.find_sink.Given as goal
+
+abbrev pub invariant-loop-k : goal.invariant-loop-k
+invariant-loop-k l = (l.k ≤ l.t.count) × (l.j ≡ length (owned l.c (take l.k (items_of l.t)))) × (l.j ≤ l.s)
+
+abbrev pub decreases-loop-k : goal.decreases-loop-k
+decreases-loop-k l = l.t.count - l.k

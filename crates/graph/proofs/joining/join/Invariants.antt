@@ -1,0 +1,13 @@
+-- `joining::join`: each node keeps what is left to do, by the laws of `Boxes`.
+-- Assumes nothing.
+use Prim.Native.Nat.{◌-◌}
+use native.Mathlib.Omega.{arith}
+use mathlib.Core.Path.{sym, ◌∙◌}
+use Rattle.graph.proofs.Boxes.{none-joined, Passing, passing_first, passing_last, passing_sinks, passing_sources, passing_next}
+use Rattle.graph.proofs.joining.join.Given as goal
+
+abbrev pub invariant-loop-p : goal.invariant-loop-p
+invariant-loop-p l = Passing l.initial.s l.s l.p
+
+abbrev pub decreases-loop-p : goal.decreases-loop-p
+decreases-loop-p l = l.n - l.p
