@@ -18,11 +18,11 @@ use Rattle.chart.specs.declared.Lines.{Lines}
 use Rattle.chart.specs.declared.Answer.TheVariants.{Ready, Refused}
 use Rattle.chart.specs.declared.Outcome.{Outcome as BoardOutcome}
 use Rattle.chart.specs.declared.Setting.{Setting}
-use Rattle.chart.specs.Chart.{Board, ends_of as ends_of, ready as accepted, refusal as refused, chart}
+use Rattle.chart.specs.Chart.{Board, ends_of as end_count, ready as accepted, refusal as refused, chart}
 use Rattle.chart.specs.Chart.{Node as GivenNode}
 use Rattle.chart.specs.Tables.{no_line, lines_from}
 use Rattle.chart.specs.code.Filled.{lines_of as texts_of, owned_lines, board_from, board_of}
-use Rattle.chart.specs.code.Filled.{items_of as ends_of, owned as ownedEnds, node_of as givenNodeOf}
+use Rattle.chart.specs.code.Filled.{items_of as ends_of, owned as owned_ends, node_of as given_node_of}
 use Rattle.chart.specs.Accepted.{Formed, Accepted}
 use Rattle.chart.specs.Read.{IsRead}
 use Rattle.chart.specs.code.Reads.{Owned as OwnedEnd, Sound as SoundBoard, reading, read_of, Reads}
@@ -51,11 +51,11 @@ use Rattle.graph.proofs.LineLaws.{lines_in, given_lines}
 use Rattle.graph.proofs.Orders.{sources-ordered, sinks-ordered, names-held, Textless, texts-held, done-linked, done-graph}
 
 -- ---- the graph that the board gives
-unmarked-owned : (p : ℕ) (xs : List GivenItem) → owned p (map unmarked_item xs) ≡ map unmarked (ownedEnds p xs)
+unmarked-owned : (p : ℕ) (xs : List GivenItem) → owned p (map unmarked_item xs) ≡ map unmarked (owned_ends p xs)
 unmarked-owned p [] = refl
 unmarked-owned p (x ∷ xs) = go (unmarked-owned p xs) (eqb x.owner p) refl
   where
-    go : owned p (map unmarked_item xs) ≡ map unmarked (ownedEnds p xs) → (b : Bool) → eqb x.owner p ≡ b → owned p (map unmarked_item (x ∷ xs)) ≡ map unmarked (ownedEnds p (x ∷ xs))
+    go : owned p (map unmarked_item xs) ≡ map unmarked (owned_ends p xs) → (b : Bool) → eqb x.owner p ≡ b → owned p (map unmarked_item (x ∷ xs)) ≡ map unmarked (owned_ends p (x ∷ xs))
     go i true e = rw (e, i)
     go i false e = rw e i
 
@@ -75,14 +75,14 @@ module _ (b : BoardTables) (sound : SoundBoard b) (x y : Table)
       ∙ ap (λ (m : ℕ). map given (owned_lines p ts) ++ number_line m) (get_or-replicate 48 p 512 0 (omega (arith, sound.nodes)))
       ∙ append-nil (map given (owned_lines p ts))
 
-  node-same : (p : ℕ) → p < b.n → node_of (lines_of r) (items_of x) (items_of y) p ≡ given_node (givenNodeOf (ends_of b.sources) ts (ends_of b.sinks) p)
+  node-same : (p : ℕ) → p < b.n → node_of (lines_of r) (items_of x) (items_of y) p ≡ given_node (given_node_of (ends_of b.sources) ts (ends_of b.sinks) p)
   node-same p h = rw (hx.0, hy.0, lines_at_lem p h, unmarked-owned p (ends_of b.sources), unmarked-owned p (ends_of b.sinks))
 
   graph_same : graph_of r ≡ given_graph (board_of b)
   unfolding graph_from board_from
   graph_same =
-      tabulate-same (node_of (lines_of r) (items_of x) (items_of y)) (λ p. given_node (givenNodeOf (ends_of b.sources) ts (ends_of b.sinks) p)) 0 b.n (λ p l h. node-same p (omega arith))
-      ∙ sym (map-tabulate given_node (givenNodeOf (ends_of b.sources) ts (ends_of b.sinks)) 0 b.n)
+      tabulate-same (node_of (lines_of r) (items_of x) (items_of y)) (λ p. given_node (given_node_of (ends_of b.sources) ts (ends_of b.sinks) p)) 0 b.n (λ p l h. node-same p (omega arith))
+      ∙ sym (map-tabulate given_node (given_node_of (ends_of b.sources) ts (ends_of b.sinks)) 0 b.n)
 
   owners : (xs : List GivenItem) → All (OwnedEnd b.n) xs → Below b.n (map unmarked_item xs)
   owners xs a = all_made (OwnedEnd b.n) (λ (z : Item). z.owner < b.n) unmarked_item (λ z h. h) xs a
@@ -188,7 +188,7 @@ module _ (b : BoardTables) (h : Held b) (t₀ t₁ : Tables) (begin : Begun b t�
   unfolding uncut
   joined_is = ap (joined t₁.n) whole-graph ∙ ap (λ (k : ℕ). joined k (complete (given_graph board))) n-is
 
-  few : ends_of board ≤ 64
+  few : end_count board ≤ 64
   few = (accepts h.setting h.chart_bytes board h.read).ends
 
   pub drawn-fits : t₁.n + leads t₁.n (graph_of t₁) ≤ 48 → Fits (joined t₁.n (graph_of t₁))
@@ -218,7 +218,7 @@ module _ (b : BoardTables) (h : Held b) (t₀ t₁ : Tables) (begin : Begun b t�
       let ys : List Item = items_of t₂.sinks in
       let size : length (graph_of t₂) ≡ t₂.n = length-graph t₂.n (lines_of t₂) xs ys in
       let aims : GraphAimed t₂.n (graph_of t₂) = subst (λ (k : ℕ). GraphAimed k (graph_of t₂)) size (subst (λ (u : Graph). GraphAimed (length u) u) (sym fitted) (uncut-aims ps₂)) in
-      let f : ends_of ps₂ ≤ 64 = few b h t₀ t₁ begin done in
+      let f : end_count ps₂ ≤ 64 = few b h t₀ t₁ begin done in
       let cx : t₂.sources.count ≤ 64 = omega (arith, table-size t₂.sources lx o.source_room, sources-held (lines_of t₂) xs ys t₂.n o.source_owners, ap (ends (λ (x : Node). x.sources)) fitted, uncut-sources ps₂ 64 f) in
       let cy : t₂.sinks.count ≤ 64 = omega (arith, table-size t₂.sinks ly o.sink_room, sinks-held (lines_of t₂) xs ys t₂.n o.sink_owners, ap (ends (λ (x : Node). x.sinks)) fitted, uncut-sinks ps₂ 64 f) in
       record {

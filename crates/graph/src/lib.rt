@@ -3,13 +3,13 @@
 #![tactic(auto)]
 
 ghost use Rattle.std.specs.Prelude.{◌≡◌};
-ghost use Rattle.chart.specs.Chart.{chart as chartOf};
+ghost use Rattle.chart.specs.Chart.{chart as chart_of};
 ghost use Rattle.chart.specs.code.Filled.{board_of};
 ghost use Rattle.graph.specs.Joining.{uncut};
 ghost use Rattle.graph.specs.Graphed.{refusal};
 ghost use Rattle.graph.specs.Outcome.{IsGraph};
 ghost use Rattle.graph.specs.Completed.{IsCompleted};
-ghost use Rattle.graph.specs.code.Graphs.{stage, staged as stagedOf, Held, IsAnswer};
+ghost use Rattle.graph.specs.code.Graphs.{stage, staged as staged_of, Held, IsAnswer};
 ghost use Rattle.graph.specs.Ends.{ends_in};
 
 use chart::{Answer, Board, Lines, Setting};
@@ -95,7 +95,7 @@ fn drawn(board: Board, cut: bool) -> Outcome
 
 // The chart read, completed, joined, and cut if asked. (It alone calls these stages, so that they share one frame: a second caller of `read` would add its frame to the sheet's.)
 fn staged(chart: &[u8], setting: Setting, cut: bool) -> Outcome
-    ensures { IsAnswer (stagedOf cut (chartOf setting chart.now)) result }
+    ensures { IsAnswer (staged_of cut (chart_of setting chart.now)) result }
 {
     let read = chart::read(chart, setting);
     let answer = read.answer;

@@ -9,7 +9,7 @@ use Rattle.laws.proofs.Tests.{pick-through}
 use Rattle.chart.specs.declared.Setting.{Setting}
 use Rattle.graph.specs.Shape.{shape_of}
 use Rattle.graph.proofs.Empty.{empty-graph, no_node}
-use Rattle.order.specs.Chains.{columns as firstColumns}
+use Rattle.order.specs.Chains.{columns as first_columns}
 use Rattle.grid.specs.Heights.{heights}
 use Rattle.grid.specs.Columns.{first_moves, fold_from, average, columns}
 use Rattle.grid.specs.RenderGrid.{Sheet, sheet_of, sheet}
@@ -30,7 +30,7 @@ abbrev unboxed : Sheet
 unboxed = record { columns = 1; rows = 1; width = 256; height = 256; cuts = 0; boxes = [] }
 
 without_nodes : sheet_of_dag (record { graph = []; cuts = 0 }) ≡ unboxed
-unfolding each shape_of firstColumns heights first_moves fold_from average columns sheet_of sheet sheet_of_dag
+unfolding each shape_of first_columns heights first_moves fold_from average columns sheet_of sheet sheet_of_dag
 without_nodes = refl
 
 -- that sheet, or 14 by the origin

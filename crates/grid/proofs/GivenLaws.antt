@@ -23,7 +23,7 @@ use Rattle.graph.proofs.AimLaws.{all_in}
 use Rattle.chart.specs.Read.{numbers_of}
 use Rattle.graph.proofs.Gathers.{graph-laws, board-walks}
 use Rattle.graph.proofs.EndsLaws.{shape-long}
-use Rattle.order.specs.Chains.{columns as firstColumns}
+use Rattle.order.specs.Chains.{columns as first_columns}
 use Rattle.grid.specs.declared.BoxRecord.{BoxRecord}
 use Rattle.grid.specs.declared.SheetRecord.{SheetRecord}
 use Rattle.grid.specs.declared.Outcome.{Outcome}
@@ -190,7 +190,7 @@ told : (v : Setting) (s : List ℕ) (d : Dag) → graphed v s ≡ cut d → Told
 unfolding sheet_of_dag sheet sheet_of
 told v s d e =
     let g : Graph = d.graph in
-    let first : List ℕ = firstColumns (shape_of g) in
+    let first : List ℕ = first_columns (shape_of g) in
     let rs : List ℕ = heights (shape_of g) in
     let cs : List ℕ = columns (shape_of g) rs first in
     let f : FirstColumns (length g) first = firsts-of g (graph-laws v s d e).aimed in

@@ -11,7 +11,7 @@ use borrow.Author.Tests.{ne_eqb}
 use native.Mathlib.Nat.{zero-add}
 use Rattle.laws.specs.Lists.{tabulate, padded}
 use Rattle.laws.proofs.Lists.{length-tabulate, get_d_tabulate, map-tabulate}
-use Rattle.chart.specs.code.Filled.{owned_lines, lines_of as textsOf'}
+use Rattle.chart.specs.code.Filled.{owned_lines, lines_of as texts_of'}
 use Rattle.graph.specs.declared.Tables.{Tables}
 use Rattle.graph.specs.Graph.{Line, given, number, invalid, Edge, Node, Graph, node_at}
 use Rattle.graph.specs.code.Tables.{owned, items_of, held_line, number_line, lines_at, graph_of}
@@ -146,7 +146,7 @@ module _ (g : Tables) (p : ℕ) (h : p < g.n) (x y i : ℕ) (v : RenderNode) (is
   sources-are : n.sources ≡ owned p (items_of g.sources)
   sources-are = ap (λ (v : Node). v.sources) (node-is g p h)
 
-  lines_are : n.lines ≡ map given (owned_lines p (textsOf' g.lines)) ++ number_line (get_or g.names p 0)
+  lines_are : n.lines ≡ map given (owned_lines p (texts_of' g.lines)) ++ number_line (get_or g.names p 0)
   lines_are = ap (λ (v : Node). v.lines) (node-is g p h)
 
   sinks-are : n.sinks ≡ owned p (items_of g.sinks)
@@ -162,7 +162,7 @@ module _ (g : Tables) (p : ℕ) (h : p < g.n) (x y i : ℕ) (v : RenderNode) (is
       ∙ sym (ap (λ (l : List Text). label_at l i) (parts n x y) ∙ join-found (top n x y) (mid n x y ++ low n x y) i (sym (ap (λ (s : Seek). s.place.found) first-is) ∙ f))
 
   module _ (not_first : first.place.found ≡ false) (second : Seek)
-      (is-second : second ≡ seek (line_texts (v.cx + x) (v.cy + y) (map given (owned_lines p (textsOf' g.lines)) ++ number_line (get_or g.names p 0))) first.left) where
+      (is-second : second ≡ seek (line_texts (v.cx + x) (v.cy + y) (map given (owned_lines p (texts_of' g.lines)) ++ number_line (get_or g.names p 0))) first.left) where
     abbrev j : ℕ
     j = i - length (top n x y)
 

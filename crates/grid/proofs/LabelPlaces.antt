@@ -33,7 +33,7 @@ use Rattle.graph.specs.Laws.{texts_at, Begins, Texts, Named, Laws}
 use Rattle.graph.proofs.AimLaws.{all_in}
 use Rattle.graph.proofs.Gathers.{Bytes, graph-laws, box-byte}
 use Rattle.graph.proofs.Cuts.{length-graph}
-use Rattle.order.specs.Chains.{columns as firstColumns}
+use Rattle.order.specs.Chains.{columns as first_columns}
 use Rattle.grid.specs.declared.BoxRecord.{BoxRecord}
 use Rattle.grid.specs.declared.SheetRecord.{SheetRecord}
 use Rattle.grid.specs.declared.LabelPlace.{LabelPlace}
@@ -148,7 +148,7 @@ module _ (v : Setting) (s : List ℕ) (x y : ℕ) (o : Outcome) (q : Made v s x 
       unfolding sheet_of_dag sheet
       place-past l =
           let g : Graph = graph_of t in
-          let f : List ℕ = firstColumns (shape_of g) in
+          let f : List ℕ = first_columns (shape_of g) in
           none_is no_label (sym (label_past g t.cuts (columns (shape_of g) (heights (shape_of g)) f) (heights (shape_of g)) k i (omega (arith, many)))) refl
 
       -- a box, whose node has a label i or not
@@ -157,7 +157,7 @@ module _ (v : Setting) (s : List ℕ) (x y : ℕ) (o : Outcome) (q : Made v s x 
         unfolding sheet_of_dag sheet
         place_is =
             let g : Graph = graph_of t in
-            let f : List ℕ = firstColumns (shape_of g) in
+            let f : List ℕ = first_columns (shape_of g) in
             e
             ∙ ap (λ (r : SheetRecord). node_label (node_at g k) (get_or r.boxes k no_box).x (get_or r.boxes k no_box).y i) sheet-is
             ∙ label_sheet g t.cuts (columns (shape_of g) (heights (shape_of g)) f) (heights (shape_of g)) x y (omega (arith, many, a.sound.linked.nodes)) k i (omega (arith, many))
@@ -367,7 +367,7 @@ module _ (v : Setting) (s : List ℕ) where
     sheet_lies k i =
         let g : Graph = d.graph in
         let rows : List ℕ = heights (shape_of g) in
-        let cols : List ℕ = columns (shape_of g) rows (firstColumns (shape_of g)) in
+        let cols : List ℕ = columns (shape_of g) rows (first_columns (shape_of g)) in
         label_lies (get_or (tabulate (box_of g cols rows) 0 (length g)) k no_outputs).texts (box_kept cols rows k (ltb k (length g)) refl) i
 
   -- a label's text is a text of the chart, or one of the 287 fixed texts

@@ -29,7 +29,7 @@ use Rattle.graph.specs.Laws.{Aimed, Laws}
 use Rattle.graph.proofs.Gathers.{graph-laws}
 use Rattle.graph.proofs.Cuts.{length-graph}
 use Rattle.graph.proofs.EndsLaws.{shape-held, sources-long, sinks-long, shape-long}
-use Rattle.order.specs.Chains.{columns as firstColumns}
+use Rattle.order.specs.Chains.{columns as first_columns}
 use Rattle.order.specs.Claims.{Under, Aimed as Led, EachOnce}
 use Rattle.order.specs.Ordered.{columns_in}
 use Rattle.order.proofs.Nodes.{each-once}
@@ -49,7 +49,7 @@ use Rattle.grid.specs.RenderGrid.{Box, Sheet, owner_in, sheet_of, sheet}
 use Rattle.grid.specs.Record.{no_box, no_sheet}
 use Rattle.grid.specs.Curves.{no_outputs, box_record, record_of}
 use Rattle.grid.specs.Cells.{cell_at, cells_in, Named, Apart}
-use Rattle.grid.proofs.SheetTheorem.{SheetTheorem, box as boxIn}
+use Rattle.grid.proofs.SheetTheorem.{SheetTheorem, box as box_in}
 use Rattle.grid.specs.Sheeted.{ready, refusal, within, fitted, sheet_of_dag, sheeted, outcome_of}
 use Rattle.grid.specs.code.Laid.{fitted_of, arranged_of}
 use Rattle.grid.specs.BoxTheorem.{box, cell, Names, Across, Down, BoxTheorem}
@@ -71,7 +71,7 @@ module _ (n leads cuts : ℕ) (g : Graph) (sh : Sheet) (t : SheetTheorem n leads
   count-is = refl
 
   -- a box of the record is that of the sheet
-  box-is : (k : ℕ) → k < r.count → box r k ≡ box_record (boxIn sh k)
+  box-is : (k : ℕ) → k < r.count → box r k ≡ box_record (box_in sh k)
   unfolding record_of
   box-is k h = get_d_padded 48 no_box (map box_record sh.boxes) k no_box (omega arith) ∙ get_or-map box_record sh.boxes k no_outputs
 
@@ -98,7 +98,7 @@ module _ (n leads cuts : ℕ) (g : Graph) (sh : Sheet) (t : SheetTheorem n leads
   row_below : (k : ℕ) → k < r.count → (box r k).row < sh.rows
   row_below k h = omega (arith, ap (λ (b : BoxRecord). b.row) (box-is k h), (t.has_cell k (in_sheet k h)).1)
 
-  names : (k c w : ℕ) → k < r.count → Names r k c w → ((boxIn sh k).column ≡ c) × ((boxIn sh k).row ≡ w)
+  names : (k c w : ℕ) → k < r.count → Names r k c w → ((box_in sh k).column ≡ c) × ((box_in sh k).row ≡ w)
   names k c w h q = (sym (ap (λ (b : BoxRecord). b.column) (box-is k h)) ∙ q.0, sym (ap (λ (b : BoxRecord). b.row) (box-is k h)) ∙ q.1)
 
   two : (i j c w : ℕ) → i < r.count → j < r.count → Names r i c w → Names r j c w → i ≡ j
@@ -179,7 +179,7 @@ module _ (v : Setting) (s : List ℕ) (w : Graphing) (a : Graphs v s w) (first :
   t = w.graph
 
   abbrev firsts : List ℕ
-  firsts = firstColumns (shape_of (graph_of t))
+  firsts = first_columns (shape_of (graph_of t))
 
   from : Linked t.n (ends_in t.sources)
   from = sources-linked t (sources-long v s w a) (sinks-long v s w a) a.sound.linked
@@ -193,7 +193,7 @@ module _ (v : Setting) (s : List ℕ) (w : Graphing) (a : Graphs v s w) (first :
   -- the first columns that the code hands on
   pub first-is : take t.n first ≡ firsts
   first-is =
-      ap (take t.n) (f ∙ columns_in_lem t.n (ends_in t.sources) (ends_in t.sinks) from to ∙ ap (λ (g : Shape). firstColumns g ++ replicate (48 - t.n) 0) (shape-held t))
+      ap (take t.n) (f ∙ columns_in_lem t.n (ends_in t.sources) (ends_in t.sinks) from to ∙ ap (λ (g : Shape). first_columns g ++ replicate (48 - t.n) 0) (shape-held t))
       ∙ take_at firsts (replicate (48 - t.n) 0) t.n (size t (sources-long v s w a) (sinks-long v s w a) a.sound.linked)
 
   pub firsts-are : FirstColumns t.n (take t.n first)
@@ -321,7 +321,7 @@ module _ (v : Setting) (s : List ℕ) (x y : ℕ) (w : Graphing) (a : Graphs v s
     g = graph_of w.graph
 
     abbrev first : List ℕ
-    first = firstColumns (shape_of g)
+    first = first_columns (shape_of g)
 
     abbrev drawing : Sheet
     drawing = sheet g w.graph.cuts first
@@ -382,10 +382,10 @@ unfolding shape_of
 shape-aims n [] a = tt
 shape-aims n (p ∷ g) a = (under n p.sources a.0.sources, under n p.sinks a.0.sinks, shape-aims n g a.1)
 
-pub firsts-of : (g : Graph) → Aimed (length g) g → FirstColumns (length g) (firstColumns (shape_of g))
+pub firsts-of : (g : Graph) → Aimed (length g) g → FirstColumns (length g) (first_columns (shape_of g))
 firsts-of g a =
     let h : Shape = shape_of g in
-    let o : EachOnce (length g) (firstColumns h) = rw (shape-long g) at (each-once h (subst (λ (k : ℕ). Led k h) (sym (shape-long g)) (shape-aims (length g) g a))) in
+    let o : EachOnce (length g) (first_columns h) = rw (shape-long g) at (each-once h (subst (λ (k : ℕ). Led k h) (sym (shape-long g)) (shape-aims (length g) g a))) in
     record {
       long = o.size;
       below = λ k i. let e = o.even k i in omega (arith, e.1, e.2);
@@ -396,5 +396,5 @@ pub never_14 : (w : Setting) (s : List ℕ) (d : Dag) → graphed w s ≡ cut d 
 unfolding sheeted sheet_of_dag
 never_14 w s d c =
     let f = firsts-of d.graph (graph-laws w s d c).aimed in
-    let z = fits d.graph (firstColumns (shape_of d.graph)) f d.cuts (small w s d c) in
+    let z = fits d.graph (first_columns (shape_of d.graph)) f d.cuts (small w s d c) in
     rw (c, le-leb (0 + (sheet_of_dag d).width) 8388608 (omega (arith, z.0)), le-leb (0 + (sheet_of_dag d).height) 8388608 (omega (arith, z.1)))

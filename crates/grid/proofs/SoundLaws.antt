@@ -23,7 +23,7 @@ use Rattle.graph.proofs.AimLaws.{all-at}
 use Rattle.chart.specs.declared.Setting.{Setting}
 use Rattle.graph.proofs.Gathers.{graph-laws}
 use Rattle.graph.proofs.EndsLaws.{shape-long}
-use Rattle.order.specs.Chains.{columns as firstColumns}
+use Rattle.order.specs.Chains.{columns as first_columns}
 use Rattle.grid.specs.declared.Curve.{Curve}
 use Rattle.grid.specs.declared.SheetRecord.{SheetRecord}
 use Rattle.grid.specs.declared.Outcome.{Outcome}
@@ -253,7 +253,7 @@ pub held : (v : Setting) (s : List ℕ) (d : Dag) → graphed v s ≡ cut d → 
 unfolding sheet_of_dag sheet sheet_of
 held v s d e =
     let g : Graph = d.graph in
-    let first : List ℕ = firstColumns (shape_of g) in
+    let first : List ℕ = first_columns (shape_of g) in
     let rows : List ℕ = heights (shape_of g) in
     let cols : List ℕ = columns (shape_of g) rows first in
     let f : FirstColumns (length g) first = firsts-of g (graph-laws v s d e).aimed in

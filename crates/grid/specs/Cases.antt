@@ -16,7 +16,7 @@ use Rattle.graph.specs.Graphed.{graphed}
 use Rattle.laws.specs.Each.{each}
 use Rattle.order.specs.Against.{all}
 use Rattle.order.specs.Weights.{round, first, weights}
-use Rattle.order.specs.Chains.{triples, chains, order, columns as firstColumns}
+use Rattle.order.specs.Chains.{triples, chains, order, columns as first_columns}
 use Rattle.grid.specs.Heights.{heights}
 use Rattle.grid.specs.Columns.{first_moves, fold_from, average, columns}
 use Rattle.grid.specs.RenderNode.{drawn}
@@ -148,5 +148,5 @@ cases =
     []
 
 all_hold : all_of holds cases ≡ true
-unfolding holds cases chart complete joined uncut reached cutting graphed shape_of each all round first weights triples chains order firstColumns heights first_moves fold_from average columns drawn sheet_of sheet sheet_of_dag sheeted
+unfolding holds cases chart complete joined uncut reached cutting graphed shape_of each all round first weights triples chains order first_columns heights first_moves fold_from average columns drawn sheet_of sheet sheet_of_dag sheeted
 all_hold = refl

@@ -5,7 +5,7 @@ use Rattle.chart.specs.declared.Answer.TheVariants.{Ready, Refused}
 use Rattle.chart.specs.declared.Setting.{Setting}
 use Rattle.graph.specs.Shape.{shape_of}
 use Rattle.graph.specs.Graphed.{Dag, Graphed, ready as cut, refusal as refused, graphed}
-use Rattle.order.specs.Chains.{columns as firstColumns}
+use Rattle.order.specs.Chains.{columns as first_columns}
 use Rattle.grid.specs.declared.Outcome.{Outcome}
 use Rattle.grid.specs.RenderGrid.{Sheet, sheet}
 use Rattle.grid.specs.Record.{no_sheet}
@@ -26,7 +26,7 @@ fitted x y s = cond (within x s.width && within y s.height) (ready s) (refusal 1
 
 -- the sheet of a cut graph: its first columns are module 5's
 unfoldable pub sheet_of_dag : Dag → Sheet
-sheet_of_dag d = sheet d.graph d.cuts (firstColumns (shape_of d.graph))
+sheet_of_dag d = sheet d.graph d.cuts (first_columns (shape_of d.graph))
 
 abbrev pub drawn : ℕ → ℕ → Graphed → Sheeted
 drawn x y (cut d) = fitted x y (sheet_of_dag d)

@@ -10,7 +10,7 @@ ghost use Rattle.grid.specs.code.Rendered.{Seated};
 ghost use Rattle.grid.specs.RenderGrid.{sheet};
 ghost use Rattle.grid.specs.Record.{no_box};
 ghost use Rattle.grid.specs.Curves.{record_of};
-ghost use Rattle.grid.specs.Sheeted.{within as withinOf, refusal, outcome_of};
+ghost use Rattle.grid.specs.Sheeted.{within as within_of, refusal, outcome_of};
 ghost use Rattle.grid.specs.code.Laid.{arranged_of};
 ghost use Rattle.grid.specs.LaidOut.{IsSheet};
 ghost use Rattle.grid.specs.Labelled.{refusal as noPlace, labelled, label_outcome_of};
@@ -139,14 +139,14 @@ fn lay_out(g: Tables, first: [u8; 48], x: u32, y: u32) -> SheetRecord
 
 // Whether origin plus total is at most 8,388,608.
 fn within(origin: u32, total: u32) -> bool
-    ensures { result ≡ withinOf origin total }
+    ensures { result ≡ within_of origin total }
 {
     (origin as u64) + (total as u64) <= 8388608
 }
 
 // Whether a sheet of this size at the origin x y is not refused by 14.
 fn fits(x: u32, y: u32, width: u32, height: u32) -> bool
-    ensures { result ≡ withinOf x width && withinOf y height }
+    ensures { result ≡ within_of x width && within_of y height }
 {
     if within(x, width) {
         return within(y, height);

@@ -1,7 +1,7 @@
 // A sheet's record, as a caller holds it.
 ghost use Rattle.std.specs.Prelude.{◌≡◌, ◌≤◌};
 ghost use Rattle.laws.specs.Bytes.{all_of};
-ghost use Rattle.grid.specs.Record.{no_box, no_sheet, near as nearOf, box_near, curve_near, boxes_of, curves_of, sound_of, refused_box, box_answer_of};
+ghost use Rattle.grid.specs.Record.{no_box, no_sheet, near as near_of, box_near, curve_near, boxes_of, curves_of, sound_of, refused_box, box_answer_of};
 
 use crate::{BoxAnswer, BoxRecord, Curve, SheetRecord};
 use chart::Answer;
@@ -49,7 +49,7 @@ pub fn no_sheet() -> SheetRecord
 
 // A sum that single precision holds.
 fn near(n: u64) -> bool
-    ensures { result ≡ nearOf n }
+    ensures { result ≡ near_of n }
 {
     n <= 8388608
 }

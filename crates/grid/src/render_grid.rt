@@ -4,7 +4,7 @@ ghost use Rattle.laws.specs.Lists.{All};
 ghost use Rattle.laws.specs.Each.{each};
 ghost use Rattle.graph.specs.code.Tables.{owned, items_of, mark_of, graph_of, Aimed};
 ghost use Rattle.grid.specs.Lists.{largest};
-ghost use Rattle.grid.specs.RenderGrid.{extent as extentOf, sheet_of};
+ghost use Rattle.grid.specs.RenderGrid.{extent as extent_of, sheet_of};
 ghost use Rattle.grid.specs.Curves.{output_at, first_to, output_for, record_of};
 ghost use Rattle.grid.specs.code.Rendered.{Seated};
 ghost use Rattle.grid.specs.code.Laid.{Bounded, sizes_in, begins_to, owner_by, boxes_from, run_at, Movable, Low, found_of, laid_outputs, no_curves, curves_at};
@@ -50,7 +50,7 @@ fn extent(places: &[u8; 48], nodes: &[u32; 384], field: usize, n: usize, c: u8) 
     requires n_bound { n ≤ 48 }
     requires n_in_bounds { n ≤ length places.now }
     requires field_bound { field < 8 }
-    ensures { result ≡ extentOf (take n places.now) (sizes_in nodes.now field n) c }
+    ensures { result ≡ extent_of (take n places.now) (sizes_in nodes.now field n) c }
 {
     let mut most: u32 = 0;
     let mut k = n;
@@ -109,7 +109,7 @@ fn total_of(
     requires last_bound { last ≤ 143 }
     requires all { All (λ s. s ≤ 8389000) (sizes_in nodes.now field n) }
     requires last_bound_2 { get_or starts.now last 0 ≤ 1250000000 }
-    ensures { result ≡ get_or starts.now last 0 + extentOf (take n places.now) (sizes_in nodes.now field n) last + 128 }
+    ensures { result ≡ get_or starts.now last 0 + extent_of (take n places.now) (sizes_in nodes.now field n) last + 128 }
 {
     starts[last as usize] + extent(places, nodes, field, n, last) + 128
 }

@@ -20,7 +20,7 @@ use Rattle.graph.specs.Graphed.{Graphed, ready as cut, refusal as unboxed, dag_o
 use Rattle.graph.specs.Joining.{uncut}
 use Rattle.graph.specs.Cutting.{cutting}
 use Rattle.signal.specs.Signal.{Signalled, ordered, cyclic, refusal as unordered, listed, back_from, sources_in, completed_of, signals, signal}
-use Rattle.signal.specs.Outcome.{outcome_of as signalOutcome}
+use Rattle.signal.specs.Outcome.{outcome_of as signal_outcome}
 use Rattle.grid.specs.declared.SheetRecord.{SheetRecord}
 use Rattle.grid.specs.declared.BoxAnswer.{BoxAnswer}
 use Rattle.grid.specs.Record.{no_box, sound_of, refused_box, box_answer_of}
@@ -41,7 +41,7 @@ use Rattle.path.specs.Drawn.{segment_of}
 use Rattle.path.specs.Text.{text_of}
 use Rattle.path.specs.Segments.{drawn_of}
 use Rattle.path.specs.Answers.{sheetAnswer, count_of, given_of, written_of}
-use Rattle.path.specs.Label.{Place, chart as inChart, table as in_table, stand_ins, tabled, label_answer_of, label_part_of, label_span_of, answer_in, span_in}
+use Rattle.path.specs.Label.{Place, chart as in_chart, table as in_table, stand_ins, tabled, label_answer_of, label_part_of, label_span_of, answer_in, span_in}
 use Rattle.margalhosa.specs.Results.{box_result, segment_result, written_result, count_result, label_result, part_result, order_result}
 
 -- ---- 1 to 12
@@ -151,7 +151,7 @@ pub label_zero : (w : Setting) (t s : List ℕ) (x y k i : ℕ) → (label_resul
 label_zero w t s x y k i = answer_zero (tabled t (labelled w s x y k i)) (label_some w t s x y k i)
 
 span-answer : (a : Answer) (p : Place) → (span_in a p).answer ≡ a
-span-answer a (inChart b e) = refl
+span-answer a (in_chart b e) = refl
 span-answer a (in_table b e) = refl
 
 pub part_zero : (w : Setting) (t s : List ℕ) (x y k i : ℕ) → (part_result (label_span_of s t (labelled w s x y k i))).refused ≡ 0 → (label_span_of s t (labelled w s x y k i)).answer ≡ Ready
@@ -226,11 +226,11 @@ signal-some (accepted ps) h =
     pick Order-some (eqb (length done) (length g)) (ordered done) (cyclic (back_from (length g) (sources_in g) done)) tt tt
 signal-some (unread n m) h = h
 
-order-answer : (v : Signalled) → Order-some v → (numbers_of (signalOutcome v).answer).first ≡ 0 → (signalOutcome v).answer ≡ Ready
+order-answer : (v : Signalled) → Order-some v → (numbers_of (signal_outcome v).answer).first ≡ 0 → (signal_outcome v).answer ≡ Ready
 order-answer (ordered os) h e = refl
 order-answer (cyclic cs) h e = absurd (omega (arith, e))
 order-answer (unordered n m) h e = absurd (omega (arith, h, e))
 
-pub order_zero : (s : List ℕ) → (order_result (signalOutcome (signal s))).refused ≡ 0 → (signalOutcome (signal s)).answer ≡ Ready
+pub order_zero : (s : List ℕ) → (order_result (signal_outcome (signal s))).refused ≡ 0 → (signal_outcome (signal s)).answer ≡ Ready
 unfolding signal
 order_zero s = order-answer (signals (chart Strict s)) (signal-some (chart Strict s) (chart-some Strict s))

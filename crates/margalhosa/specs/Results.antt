@@ -9,7 +9,7 @@ use Rattle.chart.specs.declared.Setting.TheVariants.{Default, Strict}
 use Rattle.chart.specs.Read.{Numbers, numbers_of}
 use Rattle.signal.specs.declared.SignalOrder.{SignalOrder}
 use Rattle.signal.specs.Signal.{signal}
-use Rattle.signal.specs.Outcome.{outcome_of as signalOutcome}
+use Rattle.signal.specs.Outcome.{outcome_of as signal_outcome}
 use Rattle.signal.specs.Laws.{IsSignalOrder}
 use Rattle.grid.specs.declared.Outcome.{Outcome}
 use Rattle.grid.specs.declared.BoxAnswer.{BoxAnswer}
@@ -148,6 +148,6 @@ order_result o = record { refused = (numbers_of o.answer).first; second = (numbe
 
 -- what `margalhosa_signal_order` promises, for every byte string s, read in the strict setting
 pub record IsOrderResult (s : List ℕ) (r : OrderResult) : Type 0 where
-  pub whole : r ≡ order_result (signalOutcome (signal s))
+  pub whole : r ≡ order_result (signal_outcome (signal s))
   -- an order, or a cycle (20) exactly if there is one
-  pub promised : IsSignalOrder s (signalOutcome (signal s))
+  pub promised : IsSignalOrder s (signal_outcome (signal s))

@@ -7,7 +7,7 @@ use Rattle.laws.specs.Each.{each}
 use Rattle.chart.specs.declared.Answer.{Answer}
 use Rattle.chart.specs.declared.Answer.TheVariants.{Ready, Refused}
 use Rattle.chart.specs.declared.Setting.TheVariants.{Default, Strict}
-use Rattle.chart.specs.Chart.{chart as chartOf}
+use Rattle.chart.specs.Chart.{chart as chart_of}
 use Rattle.chart.specs.Text.{ending}
 use Rattle.graph.specs.Shape.{shape_of}
 use Rattle.graph.specs.Completion.{complete}
@@ -16,7 +16,7 @@ use Rattle.graph.specs.Cutting.{reached, cutting}
 use Rattle.graph.specs.Graphed.{graphed}
 use Rattle.order.specs.Against.{all}
 use Rattle.order.specs.Weights.{round, first, weights}
-use Rattle.order.specs.Chains.{triples, chains, order, columns as firstColumns}
+use Rattle.order.specs.Chains.{triples, chains, order, columns as first_columns}
 use Rattle.grid.specs.Heights.{heights}
 use Rattle.grid.specs.Columns.{first_moves, fold_from, average, columns}
 use Rattle.grid.specs.RenderNode.{drawn}
@@ -199,7 +199,7 @@ cases =
     ∷ []
 
 all_hold : all_of holds cases ≡ true
-unfolding holds cases table_of ending stand_ins stand_ins_from stand_in digits chartOf complete joined uncut reached cutting graphed shape_of each all round first weights triples chains order firstColumns heights first_moves fold_from average columns drawn sheet_of sheet sheet_of_dag sheeted labelled
+unfolding holds cases table_of ending stand_ins stand_ins_from stand_in digits chart_of complete joined uncut reached cutting graphed shape_of each all round first weights triples chains order first_columns heights first_moves fold_from average columns drawn sheet_of sheet sheet_of_dag sheeted labelled
 all_hold = refl
 
 -- the stand-in table

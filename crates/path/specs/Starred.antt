@@ -11,10 +11,10 @@ use Rattle.graph.specs.Shape.{shape_of}
 use Rattle.graph.specs.Completion.{complete}
 use Rattle.graph.specs.Joining.{joined, uncut}
 use Rattle.graph.specs.Cutting.{reached, cutting}
-use Rattle.graph.specs.Graphed.{Graphed, ready as cut, refusal as refusedGraph, graphed}
+use Rattle.graph.specs.Graphed.{Graphed, ready as cut, refusal as refused_graph, graphed}
 use Rattle.order.specs.Against.{all}
 use Rattle.order.specs.Weights.{round, first, weights}
-use Rattle.order.specs.Chains.{triples, chains, order, columns as firstColumns}
+use Rattle.order.specs.Chains.{triples, chains, order, columns as first_columns}
 use Rattle.grid.specs.Heights.{heights}
 use Rattle.grid.specs.Columns.{first_moves, fold_from, average, columns}
 use Rattle.grid.specs.RenderNode.{drawn}
@@ -56,7 +56,7 @@ are_rows (refusal n p) rs = false
 
 abbrev has_sources : Graphed → ℕ → ℕ → Bool
 has_sources (cut d) p k = eqb (length (node_at d.graph p).sources) k
-has_sources (refusedGraph n q) p k = false
+has_sources (refused_graph n q) p k = false
 
 abbrev is_drawn : Sheeted → Bool
 is_drawn (ready s) = true
@@ -113,5 +113,5 @@ starred =
     []
 
 pub starred_hold : all_of holds starred ≡ true
-unfolding holds starred chart complete joined uncut reached cutting graphed shape_of each all round first weights triples chains order firstColumns heights first_moves fold_from average columns drawn sheet_of sheet sheet_of_dag sheeted read
+unfolding holds starred chart complete joined uncut reached cutting graphed shape_of each all round first weights triples chains order first_columns heights first_moves fold_from average columns drawn sheet_of sheet sheet_of_dag sheeted read
 starred_hold = refl

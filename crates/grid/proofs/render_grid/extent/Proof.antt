@@ -8,7 +8,7 @@ use borrow.Author.Tests.{eq-eqb, ne_eqb}
 use lib.ListN.{drop, take, get_or}
 use Rattle.laws.specs.Lists.{tabulate}
 use Rattle.laws.proofs.Lists.{drop-down, drop-end}
-use Rattle.grid.specs.RenderGrid.{extent as extentOf}
+use Rattle.grid.specs.RenderGrid.{extent as extent_of}
 use Rattle.grid.proofs.Noted.{tabulate-down}
 use borrow.Author.Rules.{rules}
 use Rattle.grid.proofs.render_grid.extent.Statement.{statement}
@@ -16,7 +16,7 @@ use Rattle.grid.proofs.render_grid.extent.Tie as tie
 
 abbrev invariant-loop : tie.invariant-loop
 invariant-loop places nodes field n c most₀ k₀ most k =
-    (k ≤ n) × (most ≡ extentOf (drop k (take n places)) (tabulate (λ i. get_or nodes (8 * i + field) 0) k (n - k)) c)
+    (k ≤ n) × (most ≡ extent_of (drop k (take n places)) (tabulate (λ i. get_or nodes (8 * i + field) 0) k (n - k)) c)
 
 abbrev decreases-loop : tie.decreases-loop
 decreases-loop places nodes field n c most₀ k₀ most k = k
@@ -90,8 +90,8 @@ returns c =
     let e : c.before.loop.k ≡ 0 = omega arith in
     let q : a.n - 0 ≡ a.n = omega arith in
     c.before.loop.invariant.1
-    ∙ ap (λ (i : ℕ). extentOf (drop i (take a.n a.places.now)) (tabulate (size z) i (a.n - i)) a.c) e
-    ∙ ap (λ (i : ℕ). extentOf (take a.n a.places.now) (tabulate (size z) 0 i) a.c) q
+    ∙ ap (λ (i : ℕ). extent_of (drop i (take a.n a.places.now)) (tabulate (size z) i (a.n - i)) a.c) e
+    ∙ ap (λ (i : ℕ). extent_of (take a.n a.places.now) (tabulate (size z) 0 i) a.c) q
 
 pub extent-spec : {M : Type 1} → statement M
 extent-spec =

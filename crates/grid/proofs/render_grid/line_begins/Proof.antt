@@ -5,7 +5,7 @@ use mathlib.Core.Path.{◌≡◌, refl, ap, sym, ◌∙◌}
 use native.Mathlib.Omega.{arith}
 use native.Mathlib.Numerals.{add-one}
 use lib.ListN.{take}
-use Rattle.grid.specs.RenderGrid.{begins, extent as extentOf}
+use Rattle.grid.specs.RenderGrid.{begins, extent as extent_of}
 use Rattle.grid.specs.code.Laid.{sizes_in, begins_to}
 use Rattle.grid.proofs.Arrays.{filled_next}
 use Rattle.grid.proofs.LaidLaws.{extent_le}
@@ -59,7 +59,7 @@ loop-again c =
     let ps = take a.n a.places.now in
     let ss = sizes_in a.nodes.now a.field a.n in
     let h = size-le c in
-    let e : l.at + c.extent.result + a.gap ≡ begins a.gap ps ss l.c + extentOf ps ss l.c + a.gap = cc (l.invariant.2, c.extent.ensures) in (
+    let e : l.at + c.extent.result + a.gap ≡ begins a.gap ps ss l.c + extent_of ps ss l.c + a.gap = cc (l.invariant.2, c.extent.ensures) in (
       search rules,
       search rules,
       e ∙ sym (ap (begins a.gap ps ss) (add-one l.c)),
