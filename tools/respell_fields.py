@@ -8,7 +8,7 @@ import re
 import sys
 
 FIELD = re.compile(r"^\s+(?:pub\s+)?([a-z][^\s(){}.,:]*-[^\s(){}.,:]*) : ")
-TOKEN = re.compile(r"(?<=[\s.{(;])[a-z][^\s(){}\[\];,.\"]*-[^\s(){}\[\];,.\"]*")
+TOKEN = re.compile(r"(?:(?<=[\s.{(;,])|^)[a-z][^\s(){}\[\];,.\"]*-[^\s(){}\[\];,.\"]*")
 
 
 def files():

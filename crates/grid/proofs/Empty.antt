@@ -36,7 +36,7 @@ without_nodes = refl
 -- that sheet, or 14 by the origin
 pub no_box : (w : Setting) (x y : ℕ) → sheeted w [] x y ≡ cond (within x 256 && within y 256) (ready unboxed) (refusal 14 0)
 unfolding sheeted
-no-box w x y = ap (drawn x y) (no_node w) ∙ ap (fitted x y) without_nodes
+no_box w x y = ap (drawn x y) (no_node w) ∙ ap (fitted x y) without_nodes
 
 -- no label is there: 15, after 14
 pub no_label : (w : Setting) (x y k i : ℕ) → labelled w [] x y k i ≡ cond (within x 256 && within y 256) (unlabelled 15 0) (unlabelled 14 0)
