@@ -14,10 +14,10 @@ use Rattle.graph.proofs.drawn.Goals.{After-cut_cycles-went, After-join-fitted, E
 
 module _ (c : After-join-fitted) where
   joined-sources : length c.join-fitted.result.sources.items ≡ 88
-  joined-sources = let k = c.join-fitted.type-inv.1.1.1.1.1.1.0 in search (rules, mapped_long)
+  joined-sources = let k = c.join-fitted.type_inv.1.1.1.1.1.1.0 in search (rules, mapped_long)
 
   joined-sinks : length c.join-fitted.result.sinks.items ≡ 88
-  joined-sinks = let k = c.join-fitted.type-inv.1.1.1.1.1.1.1.0 in search (rules, mapped_long)
+  joined-sinks = let k = c.join-fitted.type_inv.1.1.1.1.1.1.1.0 in search (rules, mapped_long)
 
   joined-roomy : Roomy c.join-fitted.result
   joined-roomy =
@@ -27,13 +27,13 @@ went : (h : Else-not-went) → h.cut_cycles-went.result.ok ≡ true
 went h = not-false _ h.if-not-went.false
 
 names-long : (c : After-cut_cycles-went) → length c.cut_cycles-went.result.tables.names ≡ 48
-names-long c = let k = c.cut_cycles-went.type-inv.1.1.1.0.1.1.1.1.0 in search rules
+names-long c = let k = c.cut_cycles-went.type_inv.1.1.1.0.1.1.1.1.0 in search rules
 
 sources-long : (c : After-cut_cycles-went) → length c.cut_cycles-went.result.tables.sources.items ≡ 88
-sources-long c = let k = c.cut_cycles-went.type-inv.1.1.1.0.1.1.1.1.1.1.0 in search (rules, mapped_long)
+sources-long c = let k = c.cut_cycles-went.type_inv.1.1.1.0.1.1.1.1.1.1.0 in search (rules, mapped_long)
 
 sinks-long : (c : After-cut_cycles-went) → length c.cut_cycles-went.result.tables.sinks.items ≡ 88
-sinks-long c = let k = c.cut_cycles-went.type-inv.1.1.1.0.1.1.1.1.1.1.1.0 in search (rules, mapped_long)
+sinks-long c = let k = c.cut_cycles-went.type_inv.1.1.1.0.1.1.1.1.1.1.1.0 in search (rules, mapped_long)
 
 roomy : (k : Else-not-went) → Roomy k.cut_cycles-went.result.tables
 roomy q =
@@ -53,14 +53,11 @@ returns-then-whole-leads-gt48 c =
 
 pub join-fitted-requires : goal.join-fitted-requires
 join-fitted-requires c =
-    (
-      c.complete-whole.ensures.standing,
-      (
+    record { standing = c.complete-whole.ensures.standing; fits = (
         drawn-fits c.args.board c.requires c.begin-given.result c.complete-whole.result c.begin-given.ensures c.complete-whole.ensures
             (omega (arith, c.if-whole-leads-gt48.false, c.count_leads-leads.ensures.0)),
         c.count_leads-leads.ensures.0,
-      ),
-    )
+      ); count_value =  }
 
 pub cut_cycles-went-requires : goal.cut_cycles-went-requires
 cut_cycles-went-requires c =
@@ -76,7 +73,7 @@ returns-then-not-went c =
     c.refused-then-not-went.result c.refused-then-not-went.ensures
 
 pub finished-done-requires : goal.finished-done-requires
-finished-done-requires c = let s = roomy (goal.at.finished-done-requires c).Else-not-went in (s.linked.nodes, (s.linked.source-room, s.linked.sink_room))
+finished-done-requires c = let s = roomy (goal.at.finished-done-requires c).Else-not-went in (s.linked.nodes, (s.linked.source_room, s.linked.sink_room))
 
 pub returns : goal.returns
 returns c =

@@ -20,7 +20,7 @@ loop-k-init c =
       numbered = search rules;
       number = refl;
       room = omega arith;
-      owners = c.requires.fit.linked.source-owners;
+      owners = c.requires.fit.linked.source_owners;
       sinked = c.requires.fit.sinked;
       paired = c.requires.fit.paired;
       same = refl;
@@ -30,14 +30,14 @@ loop-k-init c =
 pub loop-k-preserved-then-e-p : goal.loop-k-preserved-then-e-p
 loop-k-preserved-then-e-p c =
     let l = c.loop-k in
-    left-own c.args.given c.args.t c.requires.fit (long (goal.at.loop-k-preserved-then-e-p c).Start) c.args.p c.requires.p_lt_n.0 l.sources l.i l.k l.invariant (search rules) c.if-e-p.true c.gain_source-sources.result c.gain_source-sources.ensures.0 c.gain_source-sources.ensures.1 c.gain_source-sources.ensures.2
+    left-own c.args.given c.args.t c.requires.fit (long (goal.at.loop-k-preserved-then-e-p c).Start) c.args.p c.requires.p_lt_n l.sources l.i l.k l.invariant (search rules) c.if-e-p.true c.gain_source-sources.result c.gain_source-sources.ensures.0 c.gain_source-sources.ensures.1 c.gain_source-sources.ensures.2
 
 pub loop-k-preserved : goal.loop-k-preserved
 loop-k-preserved c =
     let l = c.loop-k in
-    left_other c.args.given c.args.t c.requires.fit (long (goal.at.loop-k-preserved c).Start) c.args.p c.requires.p_lt_n.0 l.sources l.i l.k l.invariant (search rules) c.if-e-p.false
+    left_other c.args.given c.args.t c.requires.fit (long (goal.at.loop-k-preserved c).Start) c.args.p c.requires.p_lt_n l.sources l.i l.k l.invariant (search rules) c.if-e-p.false
 
 pub returns : goal.returns
 returns c =
     let l = c.loop-k in
-    left_end c.args.given c.args.t c.requires.fit (long (goal.at.returns c).Start) c.args.p c.requires.p_lt_n.0 l.sources l.i l.k l.invariant c.requires.p_lt_n.1 c.loop-k-test.false
+    left_end c.args.given c.args.t c.requires.fit (long (goal.at.returns c).Start) c.args.p c.requires.p_lt_n l.sources l.i l.k l.invariant c.requires.sinks_bound c.loop-k-test.false

@@ -34,17 +34,17 @@ loop-k-init c =
 pub gain_sink-s-requires : goal.gain_sink-s-requires
 gain_sink-s-requires c =
     let l = c.loop-k in
-    (l.invariant.linked, (omega (arith, l.invariant.same.nodes, c.requires.p_lt_n), (right-sunk c.args.given c.args.t (long (goal.at.gain_sink-s-requires c).Start) c.requires.fit.linked.source-room c.args.p l.s l.j l.k l.invariant (search rules) c.if-e-p.true, omega (arith, l.invariant.fit.room))))
+    (l.invariant.linked, (omega (arith, l.invariant.same.nodes, c.requires.p_lt_n), (right-sunk c.args.given c.args.t (long (goal.at.gain_sink-s-requires c).Start) c.requires.fit.linked.source_room c.args.p l.s l.j l.k l.invariant (search rules) c.if-e-p.true, omega (arith, l.invariant.fit.room))))
 
 pub loop-k-preserved-then-e-p : goal.loop-k-preserved-then-e-p
 loop-k-preserved-then-e-p c =
     let l = c.loop-k in
-    right-own c.args.given c.args.t (long (goal.at.loop-k-preserved-then-e-p c).Start) c.requires.fit.linked.source-room c.args.p l.s l.j l.k l.invariant (search rules) c.if-e-p.true c.gain_sink-s.result c.gain_sink-s.ensures
+    right-own c.args.given c.args.t (long (goal.at.loop-k-preserved-then-e-p c).Start) c.requires.fit.linked.source_room c.args.p l.s l.j l.k l.invariant (search rules) c.if-e-p.true c.gain_sink-s.result c.gain_sink-s.ensures
 
 pub loop-k-preserved : goal.loop-k-preserved
 loop-k-preserved c =
     let l = c.loop-k in
-    right-other c.args.given c.args.t (long (goal.at.loop-k-preserved c).Start) c.requires.fit.linked.source-room c.args.p l.s l.j l.k l.invariant (search rules) c.if-e-p.false
+    right-other c.args.given c.args.t (long (goal.at.loop-k-preserved c).Start) c.requires.fit.linked.source_room c.args.p l.s l.j l.k l.invariant (search rules) c.if-e-p.false
 
 pub returns : goal.returns
 returns c =
@@ -52,7 +52,7 @@ returns c =
     record {
       graph =
           rw (node-graph c.args.t.n (lines_of c.args.t) (items_of c.args.t.sources) (items_of c.args.t.sinks) c.args.p c.requires.p_lt_n)
-          (right_end c.args.given c.args.t (long (goal.at.returns c).Start) c.requires.fit.linked.source-room c.args.p l.s l.j l.k l.invariant c.loop-k-test.false);
+          (right_end c.args.given c.args.t (long (goal.at.returns c).Start) c.requires.fit.linked.source_room c.args.p l.s l.j l.k l.invariant c.loop-k-test.false);
       fit = l.invariant.fit;
       same = l.invariant.same;
       count = l.invariant.count;

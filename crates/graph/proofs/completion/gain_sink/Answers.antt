@@ -22,25 +22,25 @@ module _ (z : Start) where
   sinks-long = search (rules, mapped_long)
 
   k-in : z.args.k < z.args.t.sources.count
-  k-in = rw (table-size z.args.t.sources long z.??pre.0.source-room) at z.??pre.1.1.0.inside
+  k-in = rw (table-size z.args.t.sources long z.requires.owned.source_room) at z.requires.sunk.inside
 
   same : get_or (items_of z.args.t.sources) z.args.k no_item ≡ get_or z.args.t.sources.items z.args.k no_item
-  same = table_at z.args.t.sources long z.??pre.0.source-room z.args.k k-in
+  same = table_at z.args.t.sources long z.requires.owned.source_room z.args.k k-in
 
 pub offset_bounds-sources-k : goal.offset_bounds-sources-k
-offset_bounds-sources-k c = omega (arith, k-in (goal.at.offset_bounds-sources-k c).Start, c.requires.owned.source-room)
+offset_bounds-sources-k c = omega (arith, k-in (goal.at.offset_bounds-sources-k c).Start, c.requires.owned.source_room)
 
 pub bounds-sources-k : goal.bounds-sources-k
-bounds-sources-k c = omega (arith, k-in (goal.at.bounds-sources-k c).Start, c.requires.owned.source-room)
+bounds-sources-k c = omega (arith, k-in (goal.at.bounds-sources-k c).Start, c.requires.owned.source_room)
 
 pub returns-then-n-e : goal.returns-then-n-e
 returns-then-n-e c =
-    sink_out c.args.t c.requires.owned c.args.p c.args.j c.args.k c.requires.p_lt_n.1.0 c.requires.p_lt_n.0
+    sink_out c.args.t c.requires.owned c.args.p c.args.j c.args.k c.requires.sunk c.requires.p_lt_n
     (get_or c.args.t.sources.items c.args.k no_item) (same (goal.at.returns-then-n-e c).Start) c.if-n-e.true
 
 pub returns-then-leads_to : goal.returns-then-leads_to
 returns-then-leads_to c =
-    sink-kept c.args.t c.requires.owned c.args.p c.args.j c.args.k c.requires.p_lt_n.1.0 c.requires.p_lt_n.0
+    sink-kept c.args.t c.requires.owned c.args.p c.args.j c.args.k c.requires.sunk c.requires.p_lt_n
     (get_or c.args.t.sources.items c.args.k no_item) (same (goal.at.returns-then-leads_to c).Start) c.if-n-e.false (sym c.leads_to.ensures ∙ c.if-leads_to.true)
 
 pub overflow_add-number : goal.overflow_add-number
@@ -54,12 +54,12 @@ overflow_add-number c =
     )
 
 pub marked-with_mark-requires : goal.marked-with_mark-requires
-marked-with_mark-requires c = (c.requires.owned.source-room, k-in (goal.at.marked-with_mark-requires c).Start)
+marked-with_mark-requires c = record { count_bound = c.requires.owned.source_room; k_lt_count = k-in (goal.at.marked-with_mark-requires c).Start }
 
 pub returns : goal.returns
 returns c =
-    sink-gained c.args.t c.requires.owned c.args.p c.args.j c.args.k c.requires.p_lt_n.1.0 c.requires.p_lt_n.0
-    (get_or c.args.t.sources.items c.args.k no_item) (same (goal.at.returns c).Start) c.if-n-e.false c.requires.p_lt_n.1.1
+    sink-gained c.args.t c.requires.owned c.args.p c.args.j c.args.k c.requires.sunk c.requires.p_lt_n
+    (get_or c.args.t.sources.items c.args.k no_item) (same (goal.at.returns c).Start) c.if-n-e.false c.requires.count_bound
     (sym c.leads_to.ensures ∙ c.if-leads_to.false)
     c.count_owned-number.result c.count_owned-number.ensures
     c.marked-with_mark.result c.push-with_sink.result

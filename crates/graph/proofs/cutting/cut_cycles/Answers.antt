@@ -60,13 +60,13 @@ module _ (h : At-loop-p) where
   outer = stateAt given-t h.loop-p.seen h.loop-p.n h.loop-p.cuts h.loop-p.names h.loop-p.sources h.loop-p.sinks h.loop-p.frames 0
 
   outer-seen : length h.loop-p.seen ≡ 48
-  outer-seen = h.loop-p.inv.0.0
+  outer-seen = h.loop-p.invariant.0.0
 
   outer-frames : length h.loop-p.frames ≡ 48
-  outer-frames = h.loop-p.inv.0.3
+  outer-frames = h.loop-p.invariant.0.3
 
   small : given-t.n ≤ 48
-  small = h.??pre.0.linked.nodes
+  small = h.requires.roomy.linked.nodes
 
   abbrev cut : Bool
   cut = h.args.cut
@@ -86,28 +86,28 @@ module _ (h : At-loop-depth) where
   inner = inner-with h.loop-depth.seen h.loop-depth.frames h.loop-depth.depth
 
   all : length h.loop-depth.seen ≡ 48
-  all = h.loop-depth.inv.0.0
+  all = h.loop-depth.invariant.0.0
 
   named : length h.loop-depth.names ≡ 48
-  named = h.loop-depth.inv.0.1
+  named = h.loop-depth.invariant.0.1
 
   most : length h.loop-depth.frames ≡ 48
-  most = h.loop-depth.inv.0.3
+  most = h.loop-depth.invariant.0.3
 
   long : length h.loop-depth.sinks.items ≡ 88
-  long = h.loop-depth.inv.0.2
+  long = h.loop-depth.invariant.0.2
 
   p-in : start.loop.p < (given-t start).n
   p-in = below start h.loop-p-test.true
 
   walk_is : answer inner ≡ explore_from (given-t start).n (walk_of (outer start)) start.loop.p
-  walk_is = h.loop-depth.inv.2 ∙ begun-is (outer start) (outer-seen start) (outer-frames start) start.loop.inv.1.ready start.loop.p p-in h.if-seen-at-eq0.true refl
+  walk_is = h.loop-depth.invariant.2 ∙ begun-is (outer start) (outer-seen start) (outer-frames start) start.loop.invariant.1.ready start.loop.p p-in h.if-seen-at-eq0.true refl
 
   depth-in : h.loop-depth.depth ≤ 48
-  depth-in = omega (arith, h.loop-depth.inv.1.room, small start)
+  depth-in = omega (arith, h.loop-depth.invariant.1.room, small start)
 
   sinks-fit : h.loop-depth.sinks.count ≤ 88
-  sinks-fit = h.loop-depth.inv.1.sound.linked.sink_room
+  sinks-fit = h.loop-depth.invariant.1.sound.linked.sink_room
 
 -- a step's frame, and the record of its next sink
 module _ (h : In-At-2) where
@@ -133,23 +133,23 @@ module _ (h : In-At-2) where
   sunk = subst (IsFound (items_of walk.loop2.sinks) f.node f.sink) h.in-At.is h.find_sink-found.ensures
 
   k-below : at-k < 88
-  k-below = x-k_in (inner walk) (all walk) (most walk) (long walk) walk.loop2.inv.1 some at-k sunk
+  k-below = x-k_in (inner walk) (all walk) (most walk) (long walk) walk.loop2.invariant.1 some at-k sunk
 
   k-in : at-k < walk.loop2.sinks.count
   k-in = rw (table-size walk.loop2.sinks (long walk) (sinks-fit walk)) at sunk.inside
 
   to_in : e.to < 48
-  to_in = x-to_in (inner walk) (all walk) (most walk) (long walk) walk.loop2.inv.1 some at-k sunk
+  to_in = x-to_in (inner walk) (all walk) (most walk) (long walk) walk.loop2.invariant.1 some at-k sunk
 
   sink-in : f.sink < 88
-  sink-in = x-sink_in (inner walk) (all walk) (most walk) (long walk) walk.loop2.inv.1 some at-k sunk
+  sink-in = x-sink_in (inner walk) (all walk) (most walk) (long walk) walk.loop2.invariant.1 some at-k sunk
 
   pass : (get_or walk.loop2.seen e.to 0 ≡ 0 → ⊥) → (get_or walk.loop2.seen e.to 0 ≡ 2 → ⊥) → Kept (inner walk) (inner-with walk walk.loop2.seen go_on walk.loop2.depth)
-  pass = x-pass (inner walk) (all walk) (most walk) (long walk) walk.loop2.inv.1 some at-k sunk
+  pass = x-pass (inner walk) (all walk) (most walk) (long walk) walk.loop2.invariant.1 some at-k sunk
 
   enter : get_or walk.loop2.seen e.to 0 ≡ 0 →
       Kept (inner walk) (inner-with walk (set walk.loop2.seen e.to 2) (set go_on walk.loop2.depth (record { node = e.to; sink = 0 })) (walk.loop2.depth + 1))
-  enter = x-enter (inner walk) (all walk) (most walk) (long walk) walk.loop2.inv.1 some at-k sunk
+  enter = x-enter (inner walk) (all walk) (most walk) (long walk) walk.loop2.invariant.1 some at-k sunk
 
 leave : (h : In_default) →
     Kept (inner h.before.before.before.before.before) (inner-with h.before.before.before.before.before (set h.loop-depth.seen (get_or h.loop-depth.frames (h.loop-depth.depth - 1) no_look).node 3) h.loop-depth.frames (h.loop-depth.depth - 1))
@@ -170,9 +170,9 @@ done : (c : After-cut_sinks-sinks) →
 done c =
     let w = walk c.before.before.before.before.before.before.before.before.before in
     let room : w.loop2.n + 2 ≤ 48 = omega (arith, c.if-n-gt46.false) in
-    x-cut (inner w) (all w) (most w) (long w) w.loop2.inv.1 (some c.before.before.before.before.before.before.before.before.before) (at-k c.before.before.before.before.before.before.before.before.before) (sunk c.before.before.before.before.before.before.before.before.before) c.if-v-ne2.false room _
-    (cut-to (inner w).tables w.loop2.inv.1.sound (f c.before.before.before.before.before.before.before.before.before).node (f c.before.before.before.before.before.before.before.before.before).sink (at-k c.before.before.before.before.before.before.before.before.before) (sunk c.before.before.before.before.before.before.before.before.before)
-    (x-node (inner w) (all w) (most w) (long w) w.loop2.inv.1 (some c.before.before.before.before.before.before.before.before.before) (at-k c.before.before.before.before.before.before.before.before.before) (sunk c.before.before.before.before.before.before.before.before.before)) room (named w)
+    x-cut (inner w) (all w) (most w) (long w) w.loop2.invariant.1 (some c.before.before.before.before.before.before.before.before.before) (at-k c.before.before.before.before.before.before.before.before.before) (sunk c.before.before.before.before.before.before.before.before.before) c.if-v-ne2.false room _
+    (cut-to (inner w).tables w.loop2.invariant.1.sound (f c.before.before.before.before.before.before.before.before.before).node (f c.before.before.before.before.before.before.before.before.before).sink (at-k c.before.before.before.before.before.before.before.before.before) (sunk c.before.before.before.before.before.before.before.before.before)
+    (x-node (inner w) (all w) (most w) (long w) w.loop2.invariant.1 (some c.before.before.before.before.before.before.before.before.before) (at-k c.before.before.before.before.before.before.before.before.before) (sunk c.before.before.before.before.before.before.before.before.before)) room (named w)
     (e c.before.before.before.before.before.before.before.before.before) (table_at w.loop2.sinks (long w) (sinks-fit w) (at-k c.before.before.before.before.before.before.before.before.before) (k-in c.before.before.before.before.before.before.before.before.before))
     c.cut_sources-sources.result c.cut_sinks-sinks.result c.cut_sources-sources.ensures c.cut_sinks-sinks.ensures)
 
@@ -187,7 +187,7 @@ marks-long : (c : After-mark_roots-seen) → length c.mark_roots-seen.result ≡
 marks-long c = search rules
 
 cut-long : (c : After-cut_sinks-sinks) → length c.cut_sinks-sinks.result.items ≡ 88
-cut-long c = let k = c.cut_sinks-sinks.type-inv in search (rules, mapped_long)
+cut-long c = let k = c.cut_sinks-sinks.type_inv in search (rules, mapped_long)
 
 pub overflow_mul-starts : goal.overflow_mul-starts
 overflow_mul-starts c = record { fits = omega (arith, starts-in c.args.cut c.args.t.n, c.requires.roomy.linked.nodes) }
@@ -223,7 +223,7 @@ loop-p-preserved-in-loop-depth c =
     let z : c.loop-depth.depth ≡ 0 = omega (arith, c.loop-depth-test.false) in
     let y : ℕ → Explore = λ (d : ℕ). stateAt (given-t s) c.loop-depth.seen c.loop-depth.n c.loop-depth.cuts c.loop-depth.names c.loop-depth.sources c.loop-depth.sinks c.loop-depth.frames d in (
       c.loop-depth.invariant.0,
-      start-walk (given-t s) (outer s) s.loop.p (outer-seen s) s.loop.inv.1 (p-in (goal.at.loop-p-preserved-in-loop-depth c).At-loop-depth) c.if-seen-at-eq0.true (y 0)
+      start-walk (given-t s) (outer s) s.loop.p (outer-seen s) s.loop.invariant.1 (p-in (goal.at.loop-p-preserved-in-loop-depth c).At-loop-depth) c.if-seen-at-eq0.true (y 0)
           (record {
             ready = subst (λ (d : ℕ). Ready (y d)) z c.loop-depth.invariant.1;
             done = refl;
@@ -282,7 +282,7 @@ offset_bounds-frames-depth c = omega (arith, depth-in (walk (goal.at.offset_boun
 pub bounds-frames-depth : goal.bounds-frames-depth
 bounds-frames-depth c =
     let w = walk (goal.at.bounds-frames-depth c).In-At-2 in
-    x-room (inner w) (all w) (most w) (long w) w.loop2.inv.1 (some (goal.at.bounds-frames-depth c).In-At-2) (at-k (goal.at.bounds-frames-depth c).In-At-2) (sunk (goal.at.bounds-frames-depth c).In-At-2) c.if-v-eq0.true
+    x-room (inner w) (all w) (most w) (long w) w.loop2.invariant.1 (some (goal.at.bounds-frames-depth c).In-At-2) (at-k (goal.at.bounds-frames-depth c).In-At-2) (sunk (goal.at.bounds-frames-depth c).In-At-2) c.if-v-eq0.true
 
 pub overflow_add-depth : goal.overflow_add-depth
 overflow_add-depth c = omega (arith, depth-in (walk (goal.at.overflow_add-depth c).In-At-2))
@@ -303,17 +303,17 @@ pub returns-then-n-gt46 : goal.returns-then-n-gt46
 returns-then-n-gt46 c =
     let w = walk (goal.at.returns-then-n-gt46 c).In-At-2 in
     let s = start w in
-    let over : 48 < length (answer (inner w)).graph = x-refuse (inner w) (all w) (most w) (long w) w.loop2.inv.1 (some (goal.at.returns-then-n-gt46 c).In-At-2) (at-k (goal.at.returns-then-n-gt46 c).In-At-2) (sunk (goal.at.returns-then-n-gt46 c).In-At-2) c.if-v-ne2.false c.if-n-gt46.true in
-    cut-over (cut s) (given-t s) s.loop.p w.before.before.loop-test.taken _
+    let over : 48 < length (answer (inner w)).graph = x-refuse (inner w) (all w) (most w) (long w) w.loop2.invariant.1 (some (goal.at.returns-then-n-gt46 c).In-At-2) (at-k (goal.at.returns-then-n-gt46 c).In-At-2) (sunk (goal.at.returns-then-n-gt46 c).In-At-2) c.if-v-ne2.false c.if-n-gt46.true in
+    cut-over (cut s) (given-t s) s.loop.p w.before.before.loop-test.true _
     (record {
       standing = [];
-      cut = start-over (given-t s) (outer s) s.loop.p (outer-seen s) s.loop.inv.1 (p-in w) w.before.if1.taken (subst (λ (u : Walk). 48 < length u.graph) (walk_is w) over);
+      cut = start-over (given-t s) (outer s) s.loop.p (outer-seen s) s.loop.invariant.1 (p-in w) w.before.if1.true (subst (λ (u : Walk). 48 < length u.graph) (walk_is w) over);
     })
 
 pub cut_sources-sources-requires : goal.cut_sources-sources-requires
 cut_sources-sources-requires c =
     let r = (walk (goal.at.cut_sources-sources-requires c).In-At-2).loop2.invariant.1.sound in
-    (omega (arith, r.source-room, c.if-n-gt46.false), (omega (arith, c.if-n-gt46.false), sink-in (goal.at.cut_sources-sources-requires c).In-At-2))
+    (omega (arith, r.source_room, c.if-n-gt46.false), (omega (arith, c.if-n-gt46.false), sink-in (goal.at.cut_sources-sources-requires c).In-At-2))
 
 pub cut_sinks-sinks-requires : goal.cut_sinks-sinks-requires
 cut_sinks-sinks-requires c =
@@ -321,13 +321,13 @@ cut_sinks-sinks-requires c =
     (omega (arith, r.sink_room, c.if-n-gt46.false), (k-in (goal.at.cut_sinks-sinks-requires c).In-At-2, omega (arith, c.if-n-gt46.false)))
 
 pub overflow_add-cuts : goal.overflow_add-cuts
-overflow_add-cuts c = let w = walk (goal.at.overflow_add-cuts c).In-At-2 in omega (arith, w.loop2.inv.1.count, c.if-n-gt46.false)
+overflow_add-cuts c = let w = walk (goal.at.overflow_add-cuts c).In-At-2 in omega (arith, w.loop2.invariant.1.count, c.if-n-gt46.false)
 
 pub loop-depth-smaller : goal.loop-depth-smaller
 loop-depth-smaller c = (done (goal.at.loop-depth-smaller c).After-cut_sinks-sinks).less
 
 pub loop-depth-preserved : goal.loop-depth-preserved
-loop-depth-preserved c = let w = walk (goal.at.loop-depth-preserved c).In-At-2 in let z = w.loop2.inv.0 in ((simp length-set z.0, simp length-set z.1, cut-long (goal.at.loop-depth-preserved c).After-cut_sinks-sinks, simp length-set z.3), (done (goal.at.loop-depth-preserved c).After-cut_sinks-sinks).ready, (done (goal.at.loop-depth-preserved c).After-cut_sinks-sinks).same ∙ w.loop2.inv.2)
+loop-depth-preserved c = let w = walk (goal.at.loop-depth-preserved c).In-At-2 in let z = w.loop2.invariant.0 in ((simp length-set z.0, simp length-set z.1, cut-long (goal.at.loop-depth-preserved c).After-cut_sinks-sinks, simp length-set z.3), (done (goal.at.loop-depth-preserved c).After-cut_sinks-sinks).ready, (done (goal.at.loop-depth-preserved c).After-cut_sinks-sinks).same ∙ w.loop2.invariant.2)
 
 pub loop-p-smaller : goal.loop-p-smaller
 loop-p-smaller c = omega (arith, c.loop-p-test.true)

@@ -20,16 +20,16 @@ module _ (z : Start) where
   sinks-long = search (rules, mapped_long)
 
   sources-few : length (far z.args.t.n (items_of z.args.t.sources)) ≤ 88
-  sources-few = omega (arith, far_le z.args.t.n (items_of z.args.t.sources), table-size z.args.t.sources sources-long z.??pre.owned.source-room, z.??pre.owned.source-room)
+  sources-few = omega (arith, far_le z.args.t.n (items_of z.args.t.sources), table-size z.args.t.sources sources-long z.requires.owned.source_room, z.requires.owned.source_room)
 
   sinks-few : length (far z.args.t.n (items_of z.args.t.sinks)) ≤ 88
-  sinks-few = omega (arith, far_le z.args.t.n (items_of z.args.t.sinks), table-size z.args.t.sinks sinks-long z.??pre.owned.sink_room, z.??pre.owned.sink_room)
+  sinks-few = omega (arith, far_le z.args.t.n (items_of z.args.t.sinks), table-size z.args.t.sinks sinks-long z.requires.owned.sink_room, z.requires.owned.sink_room)
 
 pub count_far-requires : goal.count_far-requires
 count_far-requires c = c.requires.owned.sink_room
 
 pub count_far-requires-2 : goal.count_far-requires-2
-count_far-requires-2 c = c.requires.owned.source-room
+count_far-requires-2 c = c.requires.owned.source_room
 
 pub overflow_add-result : goal.overflow_add-result
 overflow_add-result c = omega (arith, c.count_far-2.ensures, c.count_far.ensures, sources-few (goal.at.overflow_add-result c).Start, sinks-few (goal.at.overflow_add-result c).Start)
@@ -37,6 +37,6 @@ overflow_add-result c = omega (arith, c.count_far-2.ensures, c.count_far.ensures
 pub returns : goal.returns
 returns c =
     let t = c.args.t in (
-      omega (arith, c.count_far-2.ensures, c.count_far.ensures, leads-held t.n t.n (lines_of t) (items_of t.sources) (items_of t.sinks) c.requires.owned.source-owners c.requires.owned.sink_owners),
+      omega (arith, c.count_far-2.ensures, c.count_far.ensures, leads-held t.n t.n (lines_of t) (items_of t.sources) (items_of t.sinks) c.requires.owned.source_owners c.requires.owned.sink_owners),
       omega (arith, c.count_far-2.ensures, c.count_far.ensures, sources-few (goal.at.returns c).Start, sinks-few (goal.at.returns c).Start),
     )

@@ -8,7 +8,7 @@ use borrow.Author.Rules.{rules}
 use Rattle.graph.proofs.joining.join.Goals as goal
 
 pub returns-then-count-eq0 : goal.returns-then-count-eq0
-returns-then-count-eq0 c = none-joined c.args.t c.requires.standing (sym c.requires.fits.1 ∙ c.if-count-eq0.true)
+returns-then-count-eq0 c = none-joined c.args.t c.requires.standing (sym c.requires.count_value ∙ c.if-count-eq0.true)
 
 pub loop-p-init : goal.loop-p-init
 loop-p-init c = passing_first c.args.t c.requires.standing
@@ -19,18 +19,18 @@ overflow_cast-at c = omega (arith, c.requires.standing.owned.nodes)
 pub join_sinks-s-requires : goal.join_sinks-s-requires
 join_sinks-s-requires c =
     let l = c.loop-p in
-    (l.invariant.standing, (omega (arith, l.invariant.more), passing_sinks c.args.t l.s l.p l.invariant (search rules) c.requires.fits.0))
+    (l.invariant.standing, (omega (arith, l.invariant.more), passing_sinks c.args.t l.s l.p l.invariant (search rules) c.requires.fits))
 
 pub join_sources-s-requires : goal.join_sources-s-requires
 join_sources-s-requires c =
     let l = c.loop-p in
     let a = c.join_sinks-s.ensures in
-    (a.standing, (omega (arith, a.more, l.invariant.more), passing_sources c.args.t l.s l.p l.invariant (search rules) c.requires.fits.0 c.join_sinks-s.result a))
+    (a.standing, (omega (arith, a.more, l.invariant.more), passing_sources c.args.t l.s l.p l.invariant (search rules) c.requires.fits c.join_sinks-s.result a))
 
 pub loop-p-preserved : goal.loop-p-preserved
 loop-p-preserved c =
     let l = c.loop-p in
-    passing_next c.args.t l.s l.p l.invariant (search rules) c.requires.fits.0 c.join_sinks-s.result c.join_sinks-s.ensures c.join_sources-s.result c.join_sources-s.ensures
+    passing_next c.args.t l.s l.p l.invariant (search rules) c.requires.fits c.join_sinks-s.result c.join_sinks-s.ensures c.join_sources-s.result c.join_sources-s.ensures
 
 pub returns : goal.returns
 returns c =

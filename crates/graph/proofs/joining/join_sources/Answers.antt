@@ -31,10 +31,10 @@ module _ (z : Start) where
   fits : Fits (join_sources z.args.n (graph_of z.args.t) z.args.p 0 (owned z.args.p (items_of z.args.t.sources)))
   fits =
       let t = z.args.t in
-      rw (node-graph t.n (lines_of t) (items_of t.sources) (items_of t.sinks) z.args.p z.??pre.1.0) at z.??pre.1.1
+      rw (node-graph t.n (lines_of t) (items_of t.sources) (items_of t.sinks) z.args.p z.requires.p_lt_n) at z.requires.fits
 
   begins : Going (λ u. u.sources) (join_source z.args.n) (join_sources z.args.n) z.args.t z.args.p z.args.t 0 0
-  begins = going_first (λ u. u.sources) (join_source z.args.n) (join_sources z.args.n) z.args.t z.args.p z.??pre.0
+  begins = going_first (λ u. u.sources) (join_source z.args.n) (join_sources z.args.n) z.args.t z.args.p z.requires.standing
 
 -- a turn
 module _ (a : In-loop-k) where
@@ -50,26 +50,26 @@ module _ (a : In-loop-k) where
   abbrev e : Item
   e = get_or s.sources.items a.loop-k.k no_item
 
-  abbrev going : Going (λ u. u.sources) (join_source start.args.n) (join_sources start.args.n) t start.args.p s a.loop-k.inv.3.0 a.loop-k.k
-  going = a.loop-k.inv.3.1
+  abbrev going : Going (λ u. u.sources) (join_source start.args.n) (join_sources start.args.n) t start.args.p s a.loop-k.invariant.3.0 a.loop-k.k
+  going = a.loop-k.invariant.3.1
 
   abbrev long : length s.sources.items ≡ 88
-  long = a.loop-k.inv.1
+  long = a.loop-k.invariant.1
 
   abbrev other-long : length s.sinks.items ≡ 88
-  other-long = a.loop-k.inv.2
+  other-long = a.loop-k.invariant.2
 
   few : s.sources.count ≤ 88
-  few = going.standing.owned.source-room
+  few = going.standing.owned.source_room
 
-  passed : (e.owner ≡ start.args.p → ⊥) → Going (λ u. u.sources) (join_source start.args.n) (join_sources start.args.n) t start.args.p s a.loop-k.inv.3.0 (a.loop-k.k + 1)
-  passed = sources-other t start.args.n start.args.p start.pre.1.0 (fits start) s long other-long a.loop-k.inv.3.0 a.loop-k.k going a.loop-k-test.true
+  passed : (e.owner ≡ start.args.p → ⊥) → Going (λ u. u.sources) (join_source start.args.n) (join_sources start.args.n) t start.args.p s a.loop-k.invariant.3.0 (a.loop-k.k + 1)
+  passed = sources-other t start.args.n start.args.p start.requires.1.0 (fits start) s long other-long a.loop-k.invariant.3.0 a.loop-k.k going a.loop-k-test.true
 
-  kept : e.owner ≡ start.args.p → e.to < start.args.n → Going (λ u. u.sources) (join_source start.args.n) (join_sources start.args.n) t start.args.p s (a.loop-k.inv.3.0 + 1) (a.loop-k.k + 1)
-  kept = sources_kept t start.args.n start.args.p start.pre.1.0 (fits start) s long other-long a.loop-k.inv.3.0 a.loop-k.k going a.loop-k-test.true
+  kept : e.owner ≡ start.args.p → e.to < start.args.n → Going (λ u. u.sources) (join_source start.args.n) (join_sources start.args.n) t start.args.p s (a.loop-k.invariant.3.0 + 1) (a.loop-k.k + 1)
+  kept = sources_kept t start.args.n start.args.p start.requires.1.0 (fits start) s long other-long a.loop-k.invariant.3.0 a.loop-k.k going a.loop-k-test.true
 
   room : e.owner ≡ start.args.p → start.args.n ≤ e.to → (s.n < 48) × (s.sinks.count < 88)
-  room = sources-room t start.args.n start.args.p start.pre.1.0 (fits start) s long other-long a.loop-k.inv.3.0 a.loop-k.k going a.loop-k-test.true
+  room = sources-room t start.args.n start.args.p start.requires.1.0 (fits start) s long other-long a.loop-k.invariant.3.0 a.loop-k.k going a.loop-k-test.true
 
 -- a turn that makes a box
 module _ (q : Else-e-n) where
@@ -84,10 +84,10 @@ module _ (q : Else-e-n) where
 
 module _ (c : After-struct_known-in-loop-k-2-1) where
   pushed_long : length c.push-sinks.result.items ≡ 88
-  pushed_long = let k = c.push-sinks.type-inv in search (rules, mapped_long)
+  pushed_long = let k = c.push-sinks.type_inv in search (rules, mapped_long)
 
   pointed-long : length c.point-sources.result.items ≡ 88
-  pointed-long = let k = c.point-sources.type-inv in search (rules, mapped_long)
+  pointed-long = let k = c.point-sources.type_inv in search (rules, mapped_long)
 
 pub loop-k-init : goal.loop-k-init
 loop-k-init c = (names-long (goal.at.loop-k-init c).Start, sources-long (goal.at.loop-k-init c).Start, sinks-long (goal.at.loop-k-init c).Start, (_, begins (goal.at.loop-k-init c).Start))
@@ -124,7 +124,7 @@ pub push-sinks-requires : goal.push-sinks-requires
 push-sinks-requires c = (rooms (goal.at.push-sinks-requires c).Else-e-n).1
 
 pub point-sources-requires : goal.point-sources-requires
-point-sources-requires c = let a = turn (goal.at.point-sources-requires c).Else-e-n in (few a, a.loop-test.taken)
+point-sources-requires c = let a = turn (goal.at.point-sources-requires c).Else-e-n in (few a, a.loop-test.true)
 
 pub offset_bounds-names-m : goal.offset_bounds-names-m
 offset_bounds-names-m c = omega (arith, (rooms (goal.at.offset_bounds-names-m c).Else-e-n).0)
@@ -136,17 +136,17 @@ pub overflow_add-m : goal.overflow_add-m
 overflow_add-m c = omega (arith, (rooms (goal.at.overflow_add-m c).Else-e-n).0)
 
 pub loop-k-smaller : goal.loop-k-smaller
-loop-k-smaller c = omega (arith, c.point-sources.ensures.1, (turn (goal.at.loop-k-smaller c).Else-e-n).loop-test.taken)
+loop-k-smaller c = omega (arith, c.point-sources.ensures.1, (turn (goal.at.loop-k-smaller c).Else-e-n).loop-test.true)
 
 pub loop-k-preserved : goal.loop-k-preserved
 loop-k-preserved c =
     let a = turn (goal.at.loop-k-preserved c).Else-e-n in
     let made = c.push-sinks.ensures in
     let byte : (e a).to < 256 = search rules in (
-      simp length-set a.before.loop.inv.0,
+      simp length-set a.before.loop.invariant.0,
       pointed-long (goal.at.loop-k-preserved c).After-struct_known-in-loop-k-2-1,
       pushed_long (goal.at.loop-k-preserved c).After-struct_known-in-loop-k-2-1,
-      (_, sources_joined (t a) (start a).args.n (start a).args.p (start a).pre.1.0 (fits (start a)) (s a) (long a) (other-long a) a.before.loop.inv.3.0 a.before.loop.k (going a) a.loop-test.taken (own (goal.at.loop-k-preserved c).Else-e-n) c.if-e-n.false a.before.loop.inv.0 byte c.push-sinks.result c.point-sources.result (rw c.sink_of.ensures at made.items) c.point-sources.ensures.0 made.count c.point-sources.ensures.1),
+      (_, sources_joined (t a) (start a).args.n (start a).args.p (start a).requires.1.0 (fits (start a)) (s a) (long a) (other-long a) a.before.loop.invariant.3.0 a.before.loop.k (going a) a.loop-test.true (own (goal.at.loop-k-preserved c).Else-e-n) c.if-e-n.false a.before.loop.invariant.0 byte c.push-sinks.result c.point-sources.result (rw c.sink_of.ensures at made.items) c.point-sources.ensures.0 made.count c.point-sources.ensures.1),
     )
 
 pub returns : goal.returns
@@ -157,8 +157,8 @@ returns c =
     let w = l.invariant.3.1 in
     record {
       graph =
-          rw (node-graph u.n (lines_of u) (items_of u.sources) (items_of u.sinks) c.args.p c.requires.p_lt_n.0)
-          (going_end (λ u. u.sources) (join_source c.args.n) (join_sources c.args.n) (λ g p i e es. refl) u c.args.p v l.invariant.1 w.standing.owned.source-room l.invariant.3.0 l.k w c.loop-k-test.false);
+          rw (node-graph u.n (lines_of u) (items_of u.sources) (items_of u.sinks) c.args.p c.requires.p_lt_n)
+          (going_end (λ u. u.sources) (join_source c.args.n) (join_sources c.args.n) (λ g p i e es. refl) u c.args.p v l.invariant.1 w.standing.owned.source_room l.invariant.3.0 l.k w c.loop-k-test.false);
       standing = w.standing;
       cuts = refl;
       lines = refl;

@@ -12,10 +12,10 @@ pub loop-p-init : goal.loop-p-init
 loop-p-init c = (search rules, roots-first c.args.t c.requires.nodes)
 
 pub owns_none-requires : goal.owns_none-requires
-owns_none-requires c = c.requires.source-room
+owns_none-requires c = c.requires.source_room
 
 pub mark_from-next-requires : goal.mark_from-next-requires
-mark_from-next-requires c = (c.requires, search rules)
+mark_from-next-requires c = record { linked = c.requires; p_lt_n = search rules }
 
 pub loop-p-preserved-then-owns_none : goal.loop-p-preserved-then-owns_none
 loop-p-preserved-then-owns_none c =
