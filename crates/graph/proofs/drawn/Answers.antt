@@ -38,7 +38,7 @@ sinks-long c = let k = c.cut_cycles-went.type_inv.1.1.1.0.1.1.1.1.1.1.1.0 in sea
 roomy : (k : Else-not-went) → Roomy k.cut_cycles-went.result.tables
 roomy q =
     stage_roomy q.args.board q.requires q.begin-given.result q.complete-whole.result q.begin-given.ensures q.complete-whole.ensures q.join-fitted.result q.join-fitted.ensures
-    q.args.cut q.cut_cycles-went.result.ok q.cut_cycles-went.result.tables q.cut_cycles-went.ensures (went q)
+    q.args.cut q.cut_cycles-went.result.ok q.cut_cycles-went.result.tables q.cut_cycles-went.ensures (not-false _ q.if-not-went.false)
 
 pub count_leads-leads-requires : goal.count_leads-leads-requires
 count_leads-leads-requires c = c.complete-whole.ensures.standing
@@ -53,27 +53,28 @@ returns-then-whole-leads-gt48 c =
 
 pub join-fitted-requires : goal.join-fitted-requires
 join-fitted-requires c =
-    record { standing = c.complete-whole.ensures.standing; fits = (
-        drawn-fits c.args.board c.requires c.begin-given.result c.complete-whole.result c.begin-given.ensures c.complete-whole.ensures
-            (omega (arith, c.if-whole-leads-gt48.false, c.count_leads-leads.ensures.0)),
-        c.count_leads-leads.ensures.0,
-      ); count_value =  }
+    record {
+      standing = c.complete-whole.ensures.standing;
+      fits = drawn-fits c.args.board c.requires c.begin-given.result c.complete-whole.result c.begin-given.ensures c.complete-whole.ensures
+          (omega (arith, c.if-whole-leads-gt48.false, c.count_leads-leads.ensures.0));
+      count_value = c.count_leads-leads.ensures.0;
+    }
 
 pub cut_cycles-went-requires : goal.cut_cycles-went-requires
 cut_cycles-went-requires c =
-    (
-      joined-roomy (goal.at.cut_cycles-went-requires c).After-join-fitted,
-      drawn-cuts c.args.board c.requires c.begin-given.result c.complete-whole.result c.begin-given.ensures c.complete-whole.ensures c.join-fitted.result c.join-fitted.ensures,
-    )
+    record {
+      roomy = joined-roomy (goal.at.cut_cycles-went-requires c).After-join-fitted;
+      cuts_value = drawn-cuts c.args.board c.requires c.begin-given.result c.complete-whole.result c.begin-given.ensures c.complete-whole.ensures c.join-fitted.result c.join-fitted.ensures;
+    }
 
 pub returns-then-not-went : goal.returns-then-not-went
 returns-then-not-went c =
     stage-refused c.args.board c.requires c.begin-given.result c.complete-whole.result c.begin-given.ensures c.complete-whole.ensures c.join-fitted.result c.join-fitted.ensures
-    c.args.cut c.cut_cycles-went.result.ok c.cut_cycles-went.result.tables c.cut_cycles-went.ensures (not-true _ c.if-not-went.true)
+    c.args.cut c.cut_cycles-went.result.ok c.cut_cycles-went.result.tables c.cut_cycles-went.ensures ((not-true _ c.if-not-went.true))
     c.refused-then-not-went.result c.refused-then-not-went.ensures
 
 pub finished-done-requires : goal.finished-done-requires
-finished-done-requires c = let s = roomy (goal.at.finished-done-requires c).Else-not-went in (s.linked.nodes, (s.linked.source_room, s.linked.sink_room))
+finished-done-requires c = let s = roomy (goal.at.finished-done-requires c).Else-not-went in record { n_bound = s.linked.nodes; count_bound = s.linked.source_room; count_bound_2 = s.linked.sink_room }
 
 pub returns : goal.returns
 returns c =

@@ -14,6 +14,5 @@ returns-in-Ready c =
 
 pub returns-in-Refused : goal.returns-in-Refused
 returns-in-Refused c =
-    let a = c.answer-1.given in
     let s = c.args.chart.now in
-    stage_not c.args.setting s c.read-read.result c.read-read.ensures c.args.cut a.0.0 a.0.1.0 a.1 c.refused.result c.refused.ensures
+    stage_not c.args.setting s c.read-read.result c.read-read.ensures c.args.cut c.in-Refused.number c.in-Refused.second c.in-Refused.is c.refused.result c.refused.ensures

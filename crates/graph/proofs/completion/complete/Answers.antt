@@ -23,12 +23,12 @@ pub complete_sinks-half-requires : goal.complete_sinks-half-requires
 complete_sinks-half-requires c =
     let l = c.loop-p in
     let h = l.invariant in
-    (h.fit, (doing_in c.args.t.sinks.count c.args.t l.s l.p h (search rules), doing_room c.args.t.sinks.count c.args.t l.s l.p h (search rules)))
+    record { fit = h.fit; p_lt_n = doing_in c.args.t.sinks.count c.args.t l.s l.p h (search rules); sinks_bound = doing_room c.args.t.sinks.count c.args.t l.s l.p h (search rules) }
 
 pub complete_sources-s-requires : goal.complete_sources-s-requires
 complete_sources-s-requires c =
     let l = c.loop-p in
-    (c.complete_sinks-half.ensures.fit, omega (arith, c.complete_sinks-half.ensures.same.nodes, doing_in c.args.t.sinks.count c.args.t l.s l.p l.invariant (search rules)))
+    record { fit = c.complete_sinks-half.ensures.fit; p_lt_n = omega (arith, c.complete_sinks-half.ensures.same.nodes, doing_in c.args.t.sinks.count c.args.t l.s l.p l.invariant (search rules)) }
 
 pub loop-p-preserved : goal.loop-p-preserved
 loop-p-preserved c =

@@ -34,7 +34,12 @@ loop-k-init c =
 pub gain_sink-s-requires : goal.gain_sink-s-requires
 gain_sink-s-requires c =
     let l = c.loop-k in
-    (l.invariant.linked, (omega (arith, l.invariant.same.nodes, c.requires.p_lt_n), (right-sunk c.args.given c.args.t (long (goal.at.gain_sink-s-requires c).Start) c.requires.fit.linked.source_room c.args.p l.s l.j l.k l.invariant (search rules) c.if-e-p.true, omega (arith, l.invariant.fit.room))))
+    record {
+      owned = l.invariant.linked;
+      p_lt_n = omega (arith, l.invariant.same.nodes, c.requires.p_lt_n);
+      sunk = right-sunk c.args.given c.args.t (long (goal.at.gain_sink-s-requires c).Start) c.requires.fit.linked.source_room c.args.p l.s l.j l.k l.invariant (search rules) c.if-e-p.true;
+      count_bound = omega (arith, l.invariant.fit.room);
+    }
 
 pub loop-k-preserved-then-e-p : goal.loop-k-preserved-then-e-p
 loop-k-preserved-then-e-p c =

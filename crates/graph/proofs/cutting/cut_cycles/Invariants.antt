@@ -22,10 +22,24 @@ use Rattle.graph.proofs.Advances.{begins, begun-is, ends, x-node_in, x-leave, x-
 use Rattle.graph.proofs.Roots.{Started, start-pass, start-walk, start-over, start_first, start_none, start-last}
 use Rattle.graph.proofs.cutting.cut_cycles.Given as goal
 
+-- the walk's state, of which the code has each part in a variable
+abbrev pub stateAt : Tables → List ℕ → ℕ → ℕ → List ℕ → Table → Table → List Look → ℕ → Explore
+stateAt t seen n cuts names sources sinks frames depth =
+    record {
+      given = t.n;
+      tables = record { n = n; cuts = cuts; names = names; lines = t.lines; sources = sources; sinks = sinks };
+      seen = seen;
+      frames = frames;
+      depth = depth;
+    }
+
+abbrev pub Sized : List ℕ → List ℕ → Table → List Look → Type 0
+Sized seen names sinks frames = (length seen ≡ 48) × (length names ≡ 48) × (length sinks.items ≡ 88) × (length frames ≡ 48)
+
 abbrev pub invariant-loop-depth : goal.invariant-loop-depth
 invariant-loop-depth l = Sized l.seen l.names l.sinks l.frames
     × Ready (stateAt l.t l.seen l.n l.cuts l.names l.sources l.sinks l.frames l.depth)
-    × (answer (stateAt l.t l.seen l.n l.cuts l.names l.sources l.sinks l.frames l.depth) ≡ answer (stateAt l.t l.p l.at l.initial.seen l.initial.n l.initial.cuts l.initial.names l.initial.sources l.initial.depth))
+    × (answer (stateAt l.t l.seen l.n l.cuts l.names l.sources l.sinks l.frames l.depth) ≡ answer (stateAt l.t l.initial.seen l.initial.n l.initial.cuts l.initial.names l.initial.sources l.initial.sinks l.initial.frames l.initial.depth))
 
 abbrev pub decreases-loop-depth : goal.decreases-loop-depth
 decreases-loop-depth l = effort (stateAt l.t l.seen l.n l.cuts l.names l.sources l.sinks l.frames l.depth)

@@ -10,4 +10,4 @@ use borrow.Author.Rules.{rules}
 use Rattle.graph.proofs.cutting.cut_sources.Goals as goal
 
 pub returns : goal.returns
-returns c = let z = c.args in let a = c.turn_next in (c.push.ensures.items ∙ ap (λ (l : List Item). l ++ one (source_of z.c z.s z.a)) a.ensures.0, c.push.ensures.count ∙ ap (λ (k : ℕ). k + 1) a.ensures.1)
+returns c = let z = c.args in let a = c.turn-next in (c.push.ensures.items ∙ ap (λ (l : List Item). l ++ one (source_of z.c z.s z.a)) a.ensures.0, c.push.ensures.count ∙ ap (λ (k : ℕ). k + 1) a.ensures.1)

@@ -19,13 +19,13 @@ overflow_cast-at c = omega (arith, c.requires.standing.owned.nodes)
 pub join_sinks-s-requires : goal.join_sinks-s-requires
 join_sinks-s-requires c =
     let l = c.loop-p in
-    (l.invariant.standing, (omega (arith, l.invariant.more), passing_sinks c.args.t l.s l.p l.invariant (search rules) c.requires.fits))
+    record { standing = l.invariant.standing; p_lt_n = omega (arith, l.invariant.more); fits = passing_sinks c.args.t l.s l.p l.invariant (search rules) c.requires.fits }
 
 pub join_sources-s-requires : goal.join_sources-s-requires
 join_sources-s-requires c =
     let l = c.loop-p in
     let a = c.join_sinks-s.ensures in
-    (a.standing, (omega (arith, a.more, l.invariant.more), passing_sources c.args.t l.s l.p l.invariant (search rules) c.requires.fits c.join_sinks-s.result a))
+    record { standing = a.standing; p_lt_n = omega (arith, a.more, l.invariant.more); fits = passing_sources c.args.t l.s l.p l.invariant (search rules) c.requires.fits c.join_sinks-s.result a }
 
 pub loop-p-preserved : goal.loop-p-preserved
 loop-p-preserved c =

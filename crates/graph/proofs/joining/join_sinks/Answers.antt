@@ -63,16 +63,16 @@ module _ (a : In-loop-k) where
   few = going.standing.owned.sink_room
 
   passed : (e.owner ≡ start.args.p → ⊥) → Going (λ u. u.sinks) (join_sink start.args.n) (join_sinks start.args.n) t start.args.p s a.loop-k.i (a.loop-k.k + 1)
-  passed = sinks-other t start.args.n start.args.p start.requires.1.0 (fits start) s long other-long a.loop-k.i a.loop-k.k going a.loop-k-test.true
+  passed = sinks-other t start.args.n start.args.p start.requires.p_lt_n (fits start) s long other-long a.loop-k.i a.loop-k.k going a.loop-k-test.true
 
   number : e.owner ≡ start.args.p → a.loop-k.i < 88
-  number = sinks-number t start.args.n start.args.p start.requires.1.0 (fits start) s long other-long a.loop-k.i a.loop-k.k going a.loop-k-test.true
+  number = sinks-number t start.args.n start.args.p start.requires.p_lt_n (fits start) s long other-long a.loop-k.i a.loop-k.k going a.loop-k-test.true
 
   kept : e.owner ≡ start.args.p → e.to < start.args.n → Going (λ u. u.sinks) (join_sink start.args.n) (join_sinks start.args.n) t start.args.p s (a.loop-k.i + 1) (a.loop-k.k + 1)
-  kept = sinks-kept t start.args.n start.args.p start.requires.1.0 (fits start) s long other-long a.loop-k.i a.loop-k.k going a.loop-k-test.true
+  kept = sinks-kept t start.args.n start.args.p start.requires.p_lt_n (fits start) s long other-long a.loop-k.i a.loop-k.k going a.loop-k-test.true
 
   room : e.owner ≡ start.args.p → start.args.n ≤ e.to → (s.n < 48) × (s.sources.count < 88)
-  room = sinks_room t start.args.n start.args.p start.requires.1.0 (fits start) s long other-long a.loop-k.i a.loop-k.k going a.loop-k-test.true
+  room = sinks_room t start.args.n start.args.p start.requires.p_lt_n (fits start) s long other-long a.loop-k.i a.loop-k.k going a.loop-k-test.true
 
 -- a turn that makes a box
 module _ (q : Else-e-n) where
@@ -133,7 +133,7 @@ pub push-sources-requires : goal.push-sources-requires
 push-sources-requires c = (rooms (goal.at.push-sources-requires c).Else-e-n).1
 
 pub point-sinks-requires : goal.point-sinks-requires
-point-sinks-requires c = let a = turn (goal.at.point-sinks-requires c).Else-e-n in (few a, a.loop-test.true)
+point-sinks-requires c = let a = turn (goal.at.point-sinks-requires c).Else-e-n in record { count_bound = few a; k_lt_count = a.loop-k-test.true }
 
 pub offset_bounds-names-m : goal.offset_bounds-names-m
 offset_bounds-names-m c = omega (arith, (rooms (goal.at.offset_bounds-names-m c).Else-e-n).0)
@@ -145,17 +145,17 @@ pub overflow_add-m : goal.overflow_add-m
 overflow_add-m c = omega (arith, (rooms (goal.at.overflow_add-m c).Else-e-n).0)
 
 pub loop-k-smaller : goal.loop-k-smaller
-loop-k-smaller c = omega (arith, c.point-sinks.ensures.1, (turn (goal.at.loop-k-smaller c).Else-e-n).loop-test.true)
+loop-k-smaller c = omega (arith, c.point-sinks.ensures.1, (turn (goal.at.loop-k-smaller c).Else-e-n).loop-k-test.true)
 
 pub loop-k-preserved : goal.loop-k-preserved
 loop-k-preserved c =
     let a = turn (goal.at.loop-k-preserved c).Else-e-n in
     let made = c.push-sources.ensures in
     let byte : (e a).to < 256 = search rules in (
-      simp length-set a.before.loop.invariant.0,
+      simp length-set a.loop-k.invariant.0,
       pushed_long (goal.at.loop-k-preserved c).After-struct_known-in-loop-k-2-1,
       pointed-long (goal.at.loop-k-preserved c).After-struct_known-in-loop-k-2-1,
-      sinks_joined (t a) (start a).args.n (start a).args.p (start a).requires.1.0 (fits (start a)) (s a) (long a) (other-long a) a.before.loop.i a.before.loop.k (going a) a.loop-test.true (own (goal.at.loop-k-preserved c).Else-e-n) c.if-e-n.false a.before.loop.invariant.0 byte c.push-sources.result c.point-sinks.result (rw c.source_of.ensures at made.items) c.point-sinks.ensures.0 made.count c.point-sinks.ensures.1,
+      sinks_joined (t a) (start a).args.n (start a).args.p (start a).requires.p_lt_n (fits (start a)) (s a) (long a) (other-long a) a.loop-k.i a.loop-k.k (going a) a.loop-k-test.true (own (goal.at.loop-k-preserved c).Else-e-n) c.if-e-n.false a.loop-k.invariant.0 byte c.push-sources.result c.point-sinks.result (rw c.source_of.ensures at made.items) c.point-sinks.ensures.0 made.count c.point-sinks.ensures.1,
     )
 
 pub returns : goal.returns

@@ -63,13 +63,13 @@ module _ (a : In-loop-k) where
   few = going.standing.owned.source_room
 
   passed : (e.owner ≡ start.args.p → ⊥) → Going (λ u. u.sources) (join_source start.args.n) (join_sources start.args.n) t start.args.p s a.loop-k.invariant.3.0 (a.loop-k.k + 1)
-  passed = sources-other t start.args.n start.args.p start.requires.1.0 (fits start) s long other-long a.loop-k.invariant.3.0 a.loop-k.k going a.loop-k-test.true
+  passed = sources-other t start.args.n start.args.p start.requires.p_lt_n (fits start) s long other-long a.loop-k.invariant.3.0 a.loop-k.k going a.loop-k-test.true
 
   kept : e.owner ≡ start.args.p → e.to < start.args.n → Going (λ u. u.sources) (join_source start.args.n) (join_sources start.args.n) t start.args.p s (a.loop-k.invariant.3.0 + 1) (a.loop-k.k + 1)
-  kept = sources_kept t start.args.n start.args.p start.requires.1.0 (fits start) s long other-long a.loop-k.invariant.3.0 a.loop-k.k going a.loop-k-test.true
+  kept = sources_kept t start.args.n start.args.p start.requires.p_lt_n (fits start) s long other-long a.loop-k.invariant.3.0 a.loop-k.k going a.loop-k-test.true
 
   room : e.owner ≡ start.args.p → start.args.n ≤ e.to → (s.n < 48) × (s.sinks.count < 88)
-  room = sources-room t start.args.n start.args.p start.requires.1.0 (fits start) s long other-long a.loop-k.invariant.3.0 a.loop-k.k going a.loop-k-test.true
+  room = sources-room t start.args.n start.args.p start.requires.p_lt_n (fits start) s long other-long a.loop-k.invariant.3.0 a.loop-k.k going a.loop-k-test.true
 
 -- a turn that makes a box
 module _ (q : Else-e-n) where
@@ -124,7 +124,7 @@ pub push-sinks-requires : goal.push-sinks-requires
 push-sinks-requires c = (rooms (goal.at.push-sinks-requires c).Else-e-n).1
 
 pub point-sources-requires : goal.point-sources-requires
-point-sources-requires c = let a = turn (goal.at.point-sources-requires c).Else-e-n in (few a, a.loop-test.true)
+point-sources-requires c = let a = turn (goal.at.point-sources-requires c).Else-e-n in record { count_bound = few a; k_lt_count = a.loop-k-test.true }
 
 pub offset_bounds-names-m : goal.offset_bounds-names-m
 offset_bounds-names-m c = omega (arith, (rooms (goal.at.offset_bounds-names-m c).Else-e-n).0)
@@ -136,17 +136,17 @@ pub overflow_add-m : goal.overflow_add-m
 overflow_add-m c = omega (arith, (rooms (goal.at.overflow_add-m c).Else-e-n).0)
 
 pub loop-k-smaller : goal.loop-k-smaller
-loop-k-smaller c = omega (arith, c.point-sources.ensures.1, (turn (goal.at.loop-k-smaller c).Else-e-n).loop-test.true)
+loop-k-smaller c = omega (arith, c.point-sources.ensures.1, (turn (goal.at.loop-k-smaller c).Else-e-n).loop-k-test.true)
 
 pub loop-k-preserved : goal.loop-k-preserved
 loop-k-preserved c =
     let a = turn (goal.at.loop-k-preserved c).Else-e-n in
     let made = c.push-sinks.ensures in
     let byte : (e a).to < 256 = search rules in (
-      simp length-set a.before.loop.invariant.0,
+      simp length-set a.loop-k.invariant.0,
       pointed-long (goal.at.loop-k-preserved c).After-struct_known-in-loop-k-2-1,
       pushed_long (goal.at.loop-k-preserved c).After-struct_known-in-loop-k-2-1,
-      (_, sources_joined (t a) (start a).args.n (start a).args.p (start a).requires.1.0 (fits (start a)) (s a) (long a) (other-long a) a.before.loop.invariant.3.0 a.before.loop.k (going a) a.loop-test.true (own (goal.at.loop-k-preserved c).Else-e-n) c.if-e-n.false a.before.loop.invariant.0 byte c.push-sinks.result c.point-sources.result (rw c.sink_of.ensures at made.items) c.point-sources.ensures.0 made.count c.point-sources.ensures.1),
+      (_, sources_joined (t a) (start a).args.n (start a).args.p (start a).requires.p_lt_n (fits (start a)) (s a) (long a) (other-long a) a.loop-k.invariant.3.0 a.loop-k.k (going a) a.loop-k-test.true (own (goal.at.loop-k-preserved c).Else-e-n) c.if-e-n.false a.loop-k.invariant.0 byte c.push-sinks.result c.point-sources.result (rw c.sink_of.ensures at made.items) c.point-sources.ensures.0 made.count c.point-sources.ensures.1),
     )
 
 pub returns : goal.returns
