@@ -1,0 +1,10 @@
+-- `cut_at`: the nodes written so far and what is left of the path.
+-- Assumes nothing.
+use Rattle.signal.proofs.Codes.{Cut}
+use Rattle.signal.proofs.cut_at.Given as goal
+
+abbrev pub invariant-loop-k : goal.invariant-loop-k
+invariant-loop-k l = Cut l.path l.depth l.q l.nodes l.count l.k
+
+abbrev pub decreases-loop-k : goal.decreases-loop-k
+decreases-loop-k l = l.k
