@@ -79,7 +79,7 @@ module _ (g : ℕ) (t s : Tables) (p : ℕ) (d : Doing g t s p) where
       record {
         graph = d.rest ∙ ap (each (graph_of t) (λ q u. complete_node u q)) z ∙ done t;
         same = d.same;
-        source_count_lem = omega (arith, d.room);
+        source_count = omega (arith, d.room);
         sink_count = omega (arith, d.fit.room);
         standing = record { owned = d.fit.linked; blank = λ k a b. rw (d.same.names, d.names) (get_or-replicate 48 k 512 0 b) };
       }

@@ -129,7 +129,7 @@ module _ (t : Tables) (b : Owned t) (p j k : ℕ) (f : Sunk (items_of t.sources)
         graph = rw (test_is true (lt-ltb q.to t.n hq)) (rw (hy.0, hz.0, em, ← e) (sym (gains t.n (lines_of t) (items_of t.sources) (items_of t.sinks) p j k f hp to_in lacks)));
         linked = after;
         same = record { nodes = refl; cuts = refl; names = refl; lines = refl };
-        source_count_lem = hy.1;
+        source_count = hy.1;
         sink_count = omega arith;
         m = m + 1;
         marks = hy.0;
@@ -156,7 +156,7 @@ module _ (t : Tables) (b : Owned t) (p j k : ℕ) (f : Sunk (items_of t.sources)
         graph = keeps t.n (lines_of t) (items_of t.sources) (items_of t.sinks) p j k f hp to_in leads ∙ sym (test_is true (lt-ltb q.to t.n hq));
         linked = b;
         same = same_refl t;
-        source_count_lem = refl;
+        source_count = refl;
         sink_count = omega arith;
         m = xk.mark;
         marks = sym (set-get_or (items_of t.sources) k no_item);
@@ -169,7 +169,7 @@ module _ (t : Tables) (b : Owned t) (p j k : ℕ) (f : Sunk (items_of t.sources)
         graph = sym (test_is false (le-ltb q.to t.n hq));
         linked = b;
         same = same_refl t;
-        source_count_lem = refl;
+        source_count = refl;
         sink_count = omega arith;
         m = xk.mark;
         marks = sym (set-get_or (items_of t.sources) k no_item);
@@ -257,7 +257,7 @@ module _ (g : ℕ) (t : Tables) (long : length t.sources.items ≡ 88) (fits : t
           record {
             linked = h'.linked;
             same = same_trans t s r l.same h'.same;
-            count = h'.source_count_lem ∙ l.count;
+            count = h'.source_count ∙ l.count;
             within = omega arith;
             fit = (h'.fits g l.fit).0;
             given = (h'.fits g l.fit).1 ∙ l.given;

@@ -214,7 +214,7 @@ pub record Standing (t : Tables) : Type 0 where
 pub record Completed (t r : Tables) : Type 0 where
   pub graph : graph_of r ≡ complete (graph_of t)
   pub same : SameBut t r
-  pub source_count_lem : r.sources.count ≤ 64
+  pub source_count : r.sources.count ≤ 64
   pub sink_count : r.sinks.count ≤ 64
   pub standing : Standing r
 
@@ -225,7 +225,7 @@ pub record SinkGained (t : Tables) (p j k : ℕ) (r : Tables) : Type 0 where
       ≡ cond (ltb (get_or (items_of t.sources) k no_item).to (length (graph_of t))) (gain_sink (graph_of t) p j (edge_of (get_or (items_of t.sources) k no_item))) (graph_of t)
   pub linked : Owned r
   pub same : SameBut t r
-  pub source_count_lem : r.sources.count ≡ t.sources.count
+  pub source_count : r.sources.count ≡ t.sources.count
   pub sink_count : r.sinks.count ≤ t.sinks.count + 1
   pub m : ℕ
   pub marks : items_of r.sources ≡ set (items_of t.sources) k (mark_item m (get_or (items_of t.sources) k no_item))

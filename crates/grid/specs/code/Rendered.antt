@@ -90,7 +90,7 @@ pub record Modest (r : RenderNode) : Type 0 where
   pub output_height : r.outputs.y ≤ 200000
   pub output_below : 128 ≤ r.outputs.y
   pub center_x : r.cx ≤ 8389000
-  pub center_y_lem : r.cy ≤ 200000
+  pub center_y : r.cy ≤ 200000
 
 -- ---- the boxes of a graph
 -- a box's numbers as the code holds them

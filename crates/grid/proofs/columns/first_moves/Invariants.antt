@@ -1,0 +1,18 @@
+-- `columns::first_moves`: one node more at each turn, the columns as moved so far.
+-- Assumes nothing.
+use Prim.Native.Nat.{◌≤◌, ◌-◌}
+use native.Mathlib.Omega.{arith}
+use mathlib.Core.Path.{◌≡◌, refl}
+use lib.ListN.{length, take, drop}
+use Rattle.laws.specs.Each.{each}
+use Rattle.grid.specs.Columns.{first_move, first_moves}
+use Rattle.grid.specs.code.Leads.{shape_in}
+use Rattle.grid.proofs.LeadLaws.{leads-long}
+use Rattle.grid.proofs.RoundLaws.{step-take, step-drop, steps_whole, move_same, moved-boxes}
+use Rattle.grid.proofs.columns.first_moves.Given as goal
+
+abbrev pub invariant-loop-p : goal.invariant-loop-p
+invariant-loop-p l = (l.p ≤ l.n) × (take l.n l.cols ≡ each (take l.n l.initial.cols) (first_move (shape_in l.n l.to l.bounds) (take l.n l.rows)) l.p) × (drop l.n l.cols ≡ drop l.n l.initial.cols)
+
+abbrev pub decreases-loop-p : goal.decreases-loop-p
+decreases-loop-p l = l.n - l.p

@@ -1,0 +1,56 @@
+-- `columns::sum_of`: it counts down, so that it meets the ends in the order of the definition.
+-- Assumes nothing.
+use Prim.Native.Nat.{◌≤◌, ◌<◌, ◌-◌, ◌*◌}
+use native.Mathlib.Omega.{arith}
+use mathlib.Core.Path.{◌≡◌, ap, sym}
+use mathlib.Core.List.{map}
+use lib.ListN.{length}
+use Rattle.grid.specs.Lists.{total}
+use Rattle.grid.specs.Columns.{at}
+use Rattle.grid.specs.code.Leads.{part}
+use Rattle.grid.proofs.PartLaws.{part_none, part-down, part-long}
+use borrow.Author.Rules.{rules}
+use Rattle.grid.proofs.columns.sum_of.Goals as goal
+use Rattle.grid.proofs.columns.sum_of.Goals.{After-all-1, In-loop-k}
+
+long : (z : After-all-1) → length z.args.to.now ≡ 176
+long z = search rules
+
+-- the node that the end leads to, and its column
+node : (c : In-loop-k) → at c.args.to.now (c.loop-k.k - 1) < c.args.n
+node c = c.requires.by_index.0 (c.loop-k.k - 1) (omega arith)
+
+column : (c : In-loop-k) → at c.args.cols.now (at c.args.to.now (c.loop-k.k - 1)) < 144
+column c = c.requires.by_index.1.below (at c.args.to.now (c.loop-k.k - 1)) (node c)
+
+pub loop-k-init : goal.loop-k-init
+loop-k-init c =
+    let a = c.args in
+    (search rules, search rules, search rules, sym (ap (λ l. total (map (at a.cols.now) l)) (part_none a.to.now a.b)))
+
+pub overflow_cast-s-in-loop-k : goal.overflow_cast-s-in-loop-k
+overflow_cast-s-in-loop-k c = let h = node (goal.at.overflow_cast-s-in-loop-k c).In-loop-k in search rules
+
+pub bounds-cols-all : goal.bounds-cols-all
+bounds-cols-all c = omega (arith, node (goal.at.bounds-cols-all c).In-loop-k, c.requires.a_le_b)
+
+pub overflow_cast-s-in-loop-k-2 : goal.overflow_cast-s-in-loop-k-2
+overflow_cast-s-in-loop-k-2 c = let h = column (goal.at.overflow_cast-s-in-loop-k-2 c).In-loop-k in search rules
+
+pub overflow_add-s : goal.overflow_add-s
+overflow_add-s c = let h = column (goal.at.overflow_add-s c).In-loop-k in let l = c.loop-k.invariant in search rules
+
+pub loop-k-preserved : goal.loop-k-preserved
+loop-k-preserved c =
+    let a = c.args in
+    let l = c.loop-k in
+    let h = column (goal.at.loop-k-preserved c).In-loop-k in
+    let e = part-down a.to.now a.b l.k (omega arith) l.invariant.1 (omega (arith, long (goal.at.loop-k-preserved c).After-all-1)) in
+    (omega arith, omega arith, omega arith, rw e (omega arith))
+
+pub returns : goal.returns
+returns c =
+    let a = c.args in
+    let l = c.loop-k in
+    let e : l.k ≡ a.a = omega arith in
+    record { value = (rw e at l.invariant.3, rw e at l.invariant.2); b_len = part-long a.to.now a.a a.b (omega arith) (omega (arith, long (goal.at.returns c).After-all-1)) }

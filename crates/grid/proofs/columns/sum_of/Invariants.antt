@@ -1,0 +1,18 @@
+-- `columns::sum_of`: it counts down, so that it meets the ends in the order of the definition.
+-- Assumes nothing.
+use Prim.Native.Nat.{◌≤◌, ◌<◌, ◌-◌, ◌*◌}
+use native.Mathlib.Omega.{arith}
+use mathlib.Core.Path.{◌≡◌, ap, sym}
+use mathlib.Core.List.{map}
+use lib.ListN.{length}
+use Rattle.grid.specs.Lists.{total}
+use Rattle.grid.specs.Columns.{at}
+use Rattle.grid.specs.code.Leads.{part}
+use Rattle.grid.proofs.PartLaws.{part_none, part-down, part-long}
+use Rattle.grid.proofs.columns.sum_of.Given as goal
+
+abbrev pub invariant-loop-k : goal.invariant-loop-k
+invariant-loop-k l = (l.a ≤ l.k) × (l.k ≤ l.b) × (l.s ≤ 144 * (l.b - l.k)) × (l.s ≡ total (map (at l.cols) (part l.to l.k l.b)))
+
+abbrev pub decreases-loop-k : goal.decreases-loop-k
+decreases-loop-k l = l.k

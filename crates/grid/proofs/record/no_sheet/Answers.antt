@@ -1,0 +1,8 @@
+-- `record::no_sheet`: the empty box stands 48 times.
+-- Assumes nothing.
+
+use borrow.Author.Rules.{rules}
+use Rattle.grid.proofs.record.no_sheet.Goals as goal
+
+pub returns : goal.returns
+returns c = rw c.no_box-box_none.ensures

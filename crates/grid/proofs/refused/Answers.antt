@@ -1,0 +1,8 @@
+-- `refused`: the empty sheet.
+-- Assumes nothing.
+
+use borrow.Author.Rules.{rules}
+use Rattle.grid.proofs.refused.Goals as goal
+
+pub returns : goal.returns
+returns c = rw c.no_sheet-none.ensures

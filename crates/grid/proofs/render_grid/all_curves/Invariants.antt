@@ -1,0 +1,39 @@
+-- `render_grid::all_curves`: after k turns the curves are those of the first k boxes; within a turn, what is drawn and what is left make up those of box k.
+-- Assumes nothing.
+use Prim.Native.Nat.{ℕ, ◌+◌, ◌-◌, ◌*◌, ◌/◌, ◌<◌, ◌≤◌}
+use mathlib.Core.Path.{◌≡◌, refl, ap, sym, ◌∙◌}
+use mathlib.Core.Logic.{⊎_elim}
+use mathlib.Core.List.{[], ◌∷◌}
+use native.Mathlib.Omega.{arith}
+use borrow.Author.Tests.{lt-ltb, le-ltb}
+use lib.ListN.{length, drop, get_or}
+use Rattle.laws.specs.Each.{each}
+use Rattle.laws.proofs.Each.{next}
+use Rattle.laws.proofs.Lists.{mapped_long}
+use Rattle.graph.specs.declared.Item.{Item}
+use Rattle.graph.specs.code.Tables.{owned, items_of, edge_of, mark_of}
+use Rattle.graph.specs.Outcome.{no_item}
+use Rattle.grid.specs.declared.render_node.Run.{Run}
+use Rattle.grid.specs.declared.render_grid.Found.{Found}
+use Rattle.grid.specs.RenderNode.{Input, inputs_at, end_width}
+use Rattle.grid.specs.Curves.{output_for, curve_if}
+use Rattle.grid.specs.code.Laid.{run_at, Low, laid_inputs, laid_outputs, curve_of, add_all, no_curves, curves_over, curves_at}
+use Rattle.grid.proofs.Arrays.{own-up, other-up, none_left, all-take-at}
+use Rattle.grid.proofs.CurveLaws.{curve-is, add-join, add-few}
+use Rattle.grid.proofs.LaidLaws.{run-low}
+use Rattle.grid.proofs.render_grid.all_curves.Given as goal
+
+abbrev pub invariant-loop-j : goal.invariant-loop-j
+invariant-loop-j l = (l.j ≤ l.sources.count) × (l.x ≤ 1300000000 + 8421640 * l.j) × (l.all.drawn ≤ 88)
+    × (add_all l.all (curves_over (items_of l.sinks) (run_at l.nodes l.xs l.ys l.cols l.rows 5) l.k (inputs_at l.into.gap l.x l.into.y (owned l.k (drop l.j (items_of l.sources)))))
+    ≡ add_all l.initial.all (curves_over (items_of l.sinks) (run_at l.nodes l.xs l.ys l.cols l.rows 5) l.k (laid_inputs l.into (owned l.k (items_of l.sources)))))
+
+abbrev pub decreases-loop-j : goal.decreases-loop-j
+decreases-loop-j l = l.sources.count - l.j
+
+abbrev pub invariant-loop-k : goal.invariant-loop-k
+invariant-loop-k l = (l.k ≤ l.n) × (l.all.drawn ≤ 88)
+    × (l.all ≡ each no_curves (curves_at (items_of l.sources) (items_of l.sinks) (run_at l.nodes l.xs l.ys l.cols l.rows 2) (run_at l.nodes l.xs l.ys l.cols l.rows 5)) l.k)
+
+abbrev pub decreases-loop-k : goal.decreases-loop-k
+decreases-loop-k l = l.n - l.k

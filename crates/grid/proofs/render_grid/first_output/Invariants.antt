@@ -1,0 +1,24 @@
+-- `render_grid::first_output`: the invariant says what is found so far, or what is left to look at.
+-- Assumes nothing.
+use Prim.Native.Nat.{ℕ, ◌+◌, ◌-◌, ◌*◌, ◌<◌, ◌≤◌}
+use mathlib.Core.Path.{◌≡◌, refl, ap}
+use mathlib.Core.List.{[], ◌∷◌, map}
+use native.Mathlib.Omega.{arith}
+use borrow.Author.Tests.{eq-eqb, ne_eqb}
+use lib.ListN.{length, drop, take, get_or}
+use Rattle.laws.proofs.Lists.{mapped_long}
+use Rattle.grid.proofs.Arrays.{own-up, other-up, none_left}
+use Rattle.graph.specs.declared.Item.{Item}
+use Rattle.graph.specs.code.Tables.{owned, items_of, edge_of}
+use Rattle.graph.specs.Outcome.{no_item}
+use Rattle.grid.specs.RenderNode.{outputs_at}
+use Rattle.grid.specs.Curves.{first_to}
+use Rattle.grid.specs.code.Laid.{laid_outputs, found_of}
+use Rattle.grid.proofs.render_grid.first_output.Given as goal
+
+abbrev pub invariant-loop-j : goal.invariant-loop-j
+invariant-loop-j l = (l.j ≤ l.t.count) × (l.x ≤ 1300000000 + 8421640 * l.j)
+    × (first_to (outputs_at l.run.gap l.x l.run.y (owned l.q (drop l.j (items_of l.t)))) l.k ≡ first_to (laid_outputs l.run (owned l.q (items_of l.t))) l.k)
+
+abbrev pub decreases-loop-j : goal.decreases-loop-j
+decreases-loop-j l = l.t.count - l.j
