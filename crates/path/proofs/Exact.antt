@@ -8,7 +8,7 @@ use native.Mathlib.Omega.{arith}
 use lib.Dec.{T, lit<, lit≤, le→leb}
 use lib.IntN.{pos, negsuc}
 use lib.Pow.{pow-add, pow_pos, pow_mono, pow-lt, shl_lt}
-use lib.Ieee.{Float, fin, Format, binary32, up, down, round, add, mul, of_int, of_bits, in_float}
+use lib.Ieee.{Float, nan, inf, fin, Format, binary32, up, down, round, add, mul, of_int, of_bits, in_float}
 use lib.Ieee.Fits.{down_pos}
 use lib.Ieee.Exact.{HasValue, round_exact}
 use lib.Ieee.Scale.{round_same}
@@ -23,7 +23,11 @@ sum_cross X Y p q a c b d h k =
 
 pub add_at : (f : Format) (x y : Float) (a c b d : ℕ) → 0 < c → 0 < d → HasValue x false a c → HasValue y false b d → add f x y ≡ round f false (a * d + b * c) (c * d)
 unfolding add
+add_at f nan y a c b d C D h k = elim h [ ]
+add_at f (inf _) y a c b d C D h k = elim h [ ]
 add_at f (fin true m e) y a c b d C D h k = absurd (true≢false h.0)
+add_at f (fin false m e) nan a c b d C D h k = elim k [ ]
+add_at f (fin false m e) (inf _) a c b d C D h k = elim k [ ]
 add_at f (fin false m e) (fin true n g) a c b d C D h k = absurd (true≢false k.0)
 add_at f (fin false m e) (fin false n g) a c b d C D h k =
     round_same f false (m * up e * down g + n * up g * down e) (down e * down g) (a * d + b * c) (c * d) (mul-pos (down_pos e) (down_pos g)) (mul-pos C D)
@@ -31,7 +35,11 @@ add_at f (fin false m e) (fin false n g) a c b d C D h k =
 
 pub mul_at : (f : Format) (x y : Float) (a c b d : ℕ) → 0 < c → 0 < d → HasValue x false a c → HasValue y false b d → mul f x y ≡ round f false (a * b) (c * d)
 unfolding mul
+mul_at f nan y a c b d C D h k = elim h [ ]
+mul_at f (inf _) y a c b d C D h k = elim h [ ]
 mul_at f (fin true m e) y a c b d C D h k = absurd (true≢false h.0)
+mul_at f (fin false m e) nan a c b d C D h k = elim k [ ]
+mul_at f (fin false m e) (inf _) a c b d C D h k = elim k [ ]
 mul_at f (fin false m e) (fin true n g) a c b d C D h k = absurd (true≢false k.0)
 mul_at f (fin false m e) (fin false n g) a c b d C D h k =
     round_same f false (m * up e * (n * up g)) (down e * down g) (a * b) (c * d) (mul-pos (down_pos e) (down_pos g)) (mul-pos C D)
@@ -74,9 +82,9 @@ pub of-whole : (n : ℕ) → round binary32 false n 1 ≡ halves (2 * n)
 unfolding halves
 of-whole n = round_same binary32 false n 1 (2 * n) 2 (lit< tt) (lit< tt) (omega arith)
 
-pub of_int : (n : ℕ) → of_int binary32 (pos n) ≡ halves (2 * n)
+pub of_int_lem : (n : ℕ) → of_int binary32 (pos n) ≡ halves (2 * n)
 unfolding of_int
-of_int n = of-whole n
+of_int_lem n = of-whole n
 
 -- up to 2 ^ 24 halves nothing is rounded
 pub exact : (h : ℕ) → h ≤ 2 ^ 24 → HasValue (halves h) false h 2
@@ -86,6 +94,8 @@ exact h l = dyadic h 1 l (lit≤ tt)
 -- ---- the way back
 value-back : (x : Float) (h : ℕ) → HasValue x false h 2 → halves_of x ≡ h
 unfolding halves_of
+value-back nan h v = elim v [ ]
+value-back (inf _) h v = elim v [ ]
 value-back (fin s m e) h v = ap (λ (z : ℕ). z / down e) v.1 ∙ mul-div_cancel h (down_pos e)
 
 pub back : (h : ℕ) → h ≤ 2 ^ 24 → halves_of (halves h) ≡ h

@@ -1,0 +1,14 @@
+-- `pass::pass_over` meets its contract: after i turns the pass is `passTo` i. Assumes nothing.
+use Rattle.path.proofs.Passes.{turn_count, turn_value, turn_next}
+use mathlib.Core.Path.{◌≡◌, ap, ◌∙◌}
+use Prim.Native.Nat.{◌-◌, ◌≤◌}
+use native.Mathlib.Omega.{arith}
+use lib.ListN.{length}
+use Rattle.path.specs.code.Pass.{pass_to}
+use Rattle.path.proofs.pass.pass_over.Given as goal
+
+abbrev pub invariant-loop-i : goal.invariant-loop-i
+invariant-loop-i l = (l.i ≤ length l.text) × (l.m ≡ pass_to l.k l.text l.i)
+
+abbrev pub decreases-loop-i : goal.decreases-loop-i
+decreases-loop-i l = length l.text - l.i

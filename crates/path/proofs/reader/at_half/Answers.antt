@@ -1,0 +1,7 @@
+-- `reader::at_half` meets its contract. Assumes nothing.
+
+use borrow.Author.Rules.{rules}
+use Rattle.path.proofs.reader.at_half.Goals as goal
+
+pub returns : goal.returns
+returns c = rw (c.mark.ensures, c.stand_at.ensures)

@@ -1,0 +1,16 @@
+-- `reader::is_letter` meets its contract. Assumes nothing.
+use borrow.Author.Tests.{eq-eqb, ne_eqb}
+use borrow.Author.Rules.{rules}
+use Rattle.path.proofs.reader.is_letter.Goals as goal
+
+pub returns-then-b-eq77 : goal.returns-then-b-eq77
+returns-then-b-eq77 c = rw (eq-eqb _ _ c.if-b-eq77.true)
+
+pub returns-then-b-eq76 : goal.returns-then-b-eq76
+returns-then-b-eq76 c = rw (ne_eqb _ _ c.if-b-eq77.false, eq-eqb _ _ c.if-b-eq76.true)
+
+pub returns-then-b-eq67 : goal.returns-then-b-eq67
+returns-then-b-eq67 c = rw (ne_eqb _ _ c.if-b-eq77.false, ne_eqb _ _ c.if-b-eq76.false, eq-eqb _ _ c.if-b-eq67.true)
+
+pub returns-else-b-eq67 : goal.returns-else-b-eq67
+returns-else-b-eq67 c = rw (ne_eqb _ _ c.if-b-eq77.false, ne_eqb _ _ c.if-b-eq76.false, ne_eqb _ _ c.if-b-eq67.false)

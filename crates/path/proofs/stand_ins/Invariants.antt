@@ -1,0 +1,19 @@
+-- `stand_ins` meets its contract: after j turns the first j texts are put. Assumes nothing.
+use Prim.Native.Nat.{ℕ, ◌-◌, ◌≤◌}
+use native.Mathlib.Omega.{arith}
+use mathlib.Core.Path.{◌≡◌, refl, ap, ◌∙◌}
+use mathlib.Core.List.{List}
+use lib.ListN.{length, replicate}
+use Rattle.path.specs.Writer.{put}
+use Rattle.path.specs.Label.{stand_in, stand_ins_from, stand_ins_to, stand_ins}
+use Rattle.path.proofs.Labels.{text-put, table-put}
+use Rattle.path.proofs.stand_ins.Given as goal
+
+abbrev pub zeros : List ℕ
+zeros = replicate 3293 0
+
+abbrev pub invariant-loop-j : goal.invariant-loop-j
+invariant-loop-j l = (l.j ≤ 287) × (l.table ≡ put zeros 0 (stand_ins_to l.j))
+
+abbrev pub decreases-loop-j : goal.decreases-loop-j
+decreases-loop-j l = 287 - l.j
