@@ -4,7 +4,7 @@ use Prim.Native.Nat.{ℕ, zero, suc, ◌+◌, ◌-◌, ◌*◌, ◌≤◌, ◌<�
 use native.Mathlib.Omega.{arith}
 use native.Mathlib.Nat.{le_of_suc-le-suc, not-suc-le-zero}
 use native.Mathlib.Numerals.{add-one}
-use mathlib.Core.Path.{◌≡◌, refl, ap, sym, ◌∙◌}
+use mathlib.Core.Path.{◌≡◌, refl, ap, sym, ◌∙◌, subst}
 use mathlib.Core.Logic.{◌⊎◌, inl, inr}
 use mathlib.Core.Option.{Option, none, some}
 use mathlib.Core.Bool.{Bool, true, false, cond, ◌&&◌, true≢false}
@@ -191,7 +191,7 @@ module _ (rows cols : List ℕ) where
         same = λ i j l h e.
             let s = new-same (extra rows cols) (pairs_from 0 cols) 0 0 i j l h e in
             let z : 0 + i ≡ i = omega arith in
-            (s.0, rw z at s.1);
+            (s.0, subst (λ (y : ℕ). extra rows cols y ≡ 0) z s.1);
       }
 
   most1 : (i : ℕ) → i < length (table 1 rows cols) → at (table 1 rows cols) i ≤ i
@@ -204,7 +204,7 @@ module _ (rows cols : List ℕ) where
   same1 (suc i) (suc j) l h e =
       let s = new-same (extra rows cols) (pairs_from 1 cols) 1 1 i j (le_of_suc-le-suc l) (le_of_suc-le-suc h) e in
       let z : 1 + i ≡ suc i = omega arith in
-      (ap suc s.0, rw z at s.1)
+      (ap suc s.0, subst (λ (y : ℕ). extra rows cols y ≡ 0) z s.1)
 
   pub table1_folds : Folds rows cols (table 1 rows cols)
   table1_folds = record { cover = omega (arith, new-length (extra rows cols) (pairs_from 1 cols) 1 1); most = most1; same = same1 }

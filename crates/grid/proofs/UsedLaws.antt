@@ -22,8 +22,8 @@ use Rattle.grid.proofs.ListLaws.{some_below}
 use Rattle.grid.proofs.FoldLaws.{taken_more, taken-there}
 
 -- ---- a bit of a word
-bit_or : (w v c : ℕ) → bit_or w v / 2 ^ c % 2 ≡ max (w / 2 ^ c % 2) (v / 2 ^ c % 2)
-bit_or w v c = ap (λ (y : ℕ). y % 2) (or_shr w v c ∙ or_step (w / 2 ^ c) (v / 2 ^ c)) ∙ omega arith
+bit-or : (w v c : ℕ) → bit_or w v / 2 ^ c % 2 ≡ max (w / 2 ^ c % 2) (v / 2 ^ c % 2)
+bit-or w v c = ap (λ (y : ℕ). y % 2) (or_shr w v c ∙ or_step (w / 2 ^ c) (v / 2 ^ c)) ∙ omega arith
 
 -- a bit moved to its place, as the code has it
 pub bit_at : (b : ℕ) → b < 32 → 1 * 2 ^ b % 4294967296 ≡ 2 ^ b
@@ -31,11 +31,11 @@ bit_at b h = shl_exact 1 b 32 (omega arith) (omega arith) ∙ one-mul (2 ^ b)
 
 -- the bit that is set
 bit_set : (w b : ℕ) → bit_or w (2 ^ b) / 2 ^ b % 2 ≡ 1
-bit_set w b = let e : 2 ^ b / 2 ^ b ≡ 1 = div_self (pow_pos b) in bit_or w (2 ^ b) b ∙ omega arith
+bit_set w b = let e : 2 ^ b / 2 ^ b ≡ 1 = div_self (pow_pos b) in bit-or w (2 ^ b) b ∙ omega arith
 
 -- the others
 bit_other : (w b c : ℕ) → (b ≡ c → ⊥) → bit_or w (2 ^ b) / 2 ^ c % 2 ≡ w / 2 ^ c % 2
-bit_other w b c o = let e = none (less? b c) in bit_or w (2 ^ b) c ∙ omega arith
+bit_other w b c o = let e = none (less? b c) in bit-or w (2 ^ b) c ∙ omega arith
   where
     none : (b < c) ⊎ (c ≤ b) → 2 ^ b / 2 ^ c % 2 ≡ 0
     none (inl l) = ap (λ (y : ℕ). y % 2) (div-eq_of_lt (pow-lt l))

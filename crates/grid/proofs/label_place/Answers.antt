@@ -3,13 +3,12 @@
 use Prim.Native.Nat.{◌<◌}
 use native.Mathlib.Omega.{arith}
 use mathlib.Core.Path.{◌∙◌}
-use Rattle.grid.specs.code.Rendered.{Seated}
 use Rattle.grid.proofs.Sheets.{Made, seated, firsts-are, sheet-is}
 use Rattle.grid.proofs.LabelPlaces.{sitting, sited, place-past, place_found, place_none, place-refused}
 use Rattle.graph.proofs.Tabled.{graphs-of}
 use borrow.Author.Rules.{rules}
 use Rattle.grid.proofs.label_place.Goals as goal
-use Rattle.grid.proofs.label_place.Goals.{After-graph-r, After-sheet_of-laid, Else-k-g}
+use Rattle.grid.proofs.label_place.Goals.{After-sheet_of-laid, Else-k-g}
 
 -- what `sheet_of` hands over is the chart's sheet
 laid : (c : After-sheet_of-laid) → let a = c.args in Made a.setting a.chart.now a.x a.y c.sheet_of-laid.result
@@ -18,21 +17,20 @@ laid c =
     let a = c.args in
     sheet-is a.setting a.chart.now a.x a.y c.graph-r.result (graphs-of _ _ _ c.graph-r.ensures) f.result f.ensures c.sheet_of-laid.result c.sheet_of-laid.ensures
 
--- the graph's tables
-seat : (c : After-graph-r) → Seated c.graph-r.result.graph
-seat c = let a = c.args in sitting a.setting a.chart.now c.graph-r.result (graphs-of _ _ _ c.graph-r.ensures)
-
 -- a box of the graph is one of 48
 few : (c : Else-k-g) → c.args.k < 48
-few c = omega (arith, c.if-k-g.false, (seat c.before.before.before.before.before.before.before).linked.nodes)
+few c =
+    let a = c.args in
+    let s = sitting a.setting a.chart.now c.graph-r.result (graphs-of _ _ _ c.graph-r.ensures) in
+    omega (arith, c.if-k-g.false, s.linked.nodes)
 
 pub sheet_of-laid-requires : goal.sheet_of-laid-requires
 sheet_of-laid-requires c =
     let w = c.args.setting in
-    let s = c.args.chart.now in (
-      seated w s c.graph-r.result (graphs-of _ _ _ c.graph-r.ensures) c.first_in-first.result c.first_in-first.ensures,
-      firsts-are w s c.graph-r.result (graphs-of _ _ _ c.graph-r.ensures) c.first_in-first.result c.first_in-first.ensures,
-    )
+    let s = c.args.chart.now in record {
+      seated = seated w s c.graph-r.result (graphs-of _ _ _ c.graph-r.ensures) c.first_in-first.result c.first_in-first.ensures;
+      first_columns = firsts-are w s c.graph-r.result (graphs-of _ _ _ c.graph-r.ensures) c.first_in-first.result c.first_in-first.ensures;
+    }
 
 pub returns-then-k-g : goal.returns-then-k-g
 returns-then-k-g c =
@@ -52,7 +50,8 @@ label_at-place-requires c =
     let a = c.args in
     let z =
     sited a.setting a.chart.now a.x a.y c.sheet_of-laid.result (laid (goal.at.label_at-place-requires c).After-sheet_of-laid) c.graph-r.result (graphs-of _ _ _ c.graph-r.ensures) c.in-Ready.is a.k c.if-k-g.false in
-    (seat (goal.at.label_at-place-requires c).After-graph-r, (c.if-k-g.false, rw c.box_in-b.ensures z))
+    let low = rw (← c.box_in-b.ensures) at z in
+    record { seated = sitting a.setting a.chart.now c.graph-r.result (graphs-of _ _ _ c.graph-r.ensures); p_lt_n = c.if-k-g.false; x_bound = low.0; y_bound = low.1 }
 
 pub returns-then-place : goal.returns-then-place
 returns-then-place c =
@@ -70,5 +69,5 @@ returns-in-Ready c =
 pub returns-in-Refused : goal.returns-in-Refused
 returns-in-Refused c =
     let a = c.args in
-    let q = c.answer-1.given in
-    c.no_place-in-Refused.ensures ∙ place-refused a.setting a.chart.now a.x a.y c.sheet_of-laid.result (laid (goal.at.returns-in-Refused c).After-sheet_of-laid) a.k a.i q.0.0 q.0.1.0 q.1
+    let q = c.in-Refused in
+    c.no_place-in-Refused.ensures ∙ place-refused a.setting a.chart.now a.x a.y c.sheet_of-laid.result (laid (goal.at.returns-in-Refused c).After-sheet_of-laid) a.k a.i q.number q.second q.is

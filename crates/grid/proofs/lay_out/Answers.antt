@@ -1,13 +1,11 @@
 -- `lay_out`: each stage's answer is what the next one asks.
 -- Assumes nothing.
-use Prim.Native.Nat.{◌-◌}
+use Prim.Native.Nat.{ℕ, ◌-◌}
 use mathlib.Core.Path.{◌≡◌, ap, ◌∙◌}
-use mathlib.Core.List.{◌++◌}
+use mathlib.Core.List.{List, ◌++◌}
 use lib.ListN.{length, take, drop, replicate}
 use Rattle.laws.proofs.Lists.{mapped_long}
-use Rattle.graph.specs.declared.Tables.{Tables}
 use Rattle.graph.specs.Shape.{Shape}
-use Rattle.graph.specs.Ends.{shape_from, Linked}
 use Rattle.grid.specs.Heights.{heights}
 use Rattle.grid.specs.Columns.{columns}
 use Rattle.grid.specs.RenderGrid.{Sheet}
@@ -15,7 +13,7 @@ use Rattle.grid.specs.Curves.{record_of}
 use Rattle.grid.proofs.Sheets.{from-linked, to-linked, rows_inside, rows_bounded, cols_bounded, laid-is}
 use borrow.Author.Rules.{rules}
 use Rattle.grid.proofs.lay_out.Goals as goal
-use Rattle.grid.proofs.lay_out.Goals.{After-columns, After-ends_of-to, After-heights-rows, Start}
+use Rattle.grid.proofs.lay_out.Goals.{Start}
 
 sources-long : (c : Start) → length c.args.g.sources.items ≡ 88
 sources-long c = search (rules, mapped_long)
@@ -23,62 +21,66 @@ sources-long c = search (rules, mapped_long)
 sinks-long : (c : Start) → length c.args.g.sinks.items ≡ 88
 sinks-long c = search (rules, mapped_long)
 
--- the rows are those of the ends' shape, which the table of leads holds
-module _ (c : After-heights-rows) where
-  abbrev known : After-ends_of-to
-  known = c.before.before.before.before.before
+-- the rows, and the columns, are those of the ends' shape, which the table of leads holds
+rows : (n : ℕ) (held shape : Shape) → held ≡ shape → (ys : List ℕ) → ys ≡ heights held ++ replicate (48 - n) 0 → ys ≡ heights shape ++ replicate (48 - n) 0
+rows n held shape s ys e = e ∙ ap (λ (g : Shape). heights g ++ replicate (48 - n) 0) s
 
-  abbrev s : Start
-  s = known.before.before.before.before
-
-  abbrev t : Tables
-  t = s.args.g
-
-  abbrev shape : Shape
-  shape = shape_from t.n known.before.ends_of.result known.ends-of2.result
-
-  rows : c.heights-rows.result ≡ heights shape ++ replicate (48 - t.n) 0
-  rows = c.heights-rows.ensures ∙ ap (λ (g : Shape). heights g ++ replicate (48 - t.n) 0) c.leads_of-l.ensures.shape
-
--- and so are the columns
-module _ (c : After-columns) where
-  abbrev high : After-heights-rows
-  high = c.before.before.before.before.before.before
-
-  cols : c.columns.new.bounds.1.1.0 ≡ columns (shape high) (take (t high).n high.heights.result) (take (t high).n (s high).args.first) ++ drop (t high).n (s high).args.first
-  cols =
-      c.columns.ensures
-      ∙ ap (λ (g : Shape). columns g (take (t high).n high.heights.result) (take (t high).n (s high).args.first) ++ drop (t high).n (s high).args.first)
-      high.before.before.before.before.leads-of.ensures.0
+cols : (n : ℕ) (held shape : Shape) → held ≡ shape → (ys first xs : List ℕ) → xs ≡ columns held (take n ys) (take n first) ++ drop n first →
+    xs ≡ columns shape (take n ys) (take n first) ++ drop n first
+cols n held shape s ys first xs e = e ∙ ap (λ (g : Shape). columns g (take n ys) (take n first) ++ drop n first) s
 
 pub leads_of-l-requires : goal.leads_of-l-requires
 leads_of-l-requires c =
+    let z = (goal.at.leads_of-l-requires c).Start in
+    let t = c.args.g in
     let d = c.ends_of-from.ensures in
     let e = c.ends_of-to.ensures in
-    (from-linked c.args.g (sources-long (goal.at.leads_of-l-requires c).Start) (sinks-long (goal.at.leads_of-l-requires c).Start) c.requires.seated _ _ d e, to-linked c.args.g (sources-long (goal.at.leads_of-l-requires c).Start) (sinks-long (goal.at.leads_of-l-requires c).Start) c.requires.seated _ _ d e)
+    (from-linked t (sources-long z) (sinks-long z) c.requires.seated _ _ d e, to-linked t (sources-long z) (sinks-long z) c.requires.seated _ _ d e)
 
 pub columns-requires : goal.columns-requires
 columns-requires c =
-    let z = s (goal.at.columns-requires c).After-heights-rows in (
-      c.leads_of-l.ensures.led,
-      (rows_inside (t (goal.at.columns-requires c).After-heights-rows) (sources-long z) (sinks-long z) z.requires.0 _ _ (known (goal.at.columns-requires c).After-heights-rows).before.ends_of.ensures (known (goal.at.columns-requires c).After-heights-rows).ends-of2.ensures c.heights-rows.result (rows (goal.at.columns-requires c).After-heights-rows), z.requires.1),
-    )
+    let z = (goal.at.columns-requires c).Start in
+    let t = c.args.g in
+    let d = c.ends_of-from.ensures in
+    let e = c.ends_of-to.ensures in
+    let h = c.heights-rows in
+    record {
+      led = c.leads_of-l.ensures.led;
+      inside = (
+        rows_inside t (sources-long z) (sinks-long z) c.requires.seated _ _ d e h.result (rows t.n _ _ c.leads_of-l.ensures.shape h.result h.ensures),
+        c.requires.first_columns,
+      );
+    }
 
 pub laid-requires : goal.laid-requires
 laid-requires c =
-    let h = high (goal.at.laid-requires c).After-columns in
-    let z = s h in
-    let d = (known h).before.ends_of.ensures in
-    let e = (known h).ends-of2.ensures in record { seated = z.requires.0; bounded = (
-        rows_bounded (t h) (sources-long z) (sinks-long z) z.requires.0 _ _ d e h.heights.result (rows h),
-        cols_bounded (t h) (sources-long z) (sinks-long z) z.requires.0 _ _ d e h.heights.result (rows h) z.args.first z.requires.1 c.columns.new.bounds.1.1.0 (cols (goal.at.laid-requires c).After-columns),
-      ); bounded_2 =  }
+    let z = (goal.at.laid-requires c).Start in
+    let t = c.args.g in
+    let d = c.ends_of-from.ensures in
+    let e = c.ends_of-to.ensures in
+    let s = c.leads_of-l.ensures.shape in
+    let h = c.heights-rows in
+    let k = c.columns in
+    let r = rows t.n _ _ s h.result h.ensures in
+    record {
+      seated = c.requires.seated;
+      bounded = rows_bounded t (sources-long z) (sinks-long z) c.requires.seated _ _ d e h.result r;
+      bounded_2 =
+        cols_bounded t (sources-long z) (sinks-long z) c.requires.seated _ _ d e h.result r c.args.first c.requires.first_columns k.new.cols
+        (cols t.n _ _ s h.result c.args.first k.new.cols k.ensures);
+    }
 
 pub returns : goal.returns
 returns c =
-    let h = high (goal.at.returns c).After-columns in
-    let z = s h in
-    let d = (known h).before.ends_of.ensures in
-    let e = (known h).ends-of2.ensures in
+    let z = (goal.at.returns c).Start in
+    let t = c.args.g in
+    let d = c.ends_of-from.ensures in
+    let e = c.ends_of-to.ensures in
+    let s = c.leads_of-l.ensures.shape in
+    let h = c.heights-rows in
+    let k = c.columns in
+    let r = rows t.n _ _ s h.result h.ensures in
     c.laid.ensures
-    ∙ ap (λ (sh : Sheet). record_of sh z.args.x z.args.y) (laid-is (t h) (sources-long z) (sinks-long z) z.requires.0 _ _ d e h.heights.result (rows h) z.args.first z.requires.1 c.columns.new.bounds.1.1.0 (cols (goal.at.returns c).After-columns))
+    ∙ ap (λ (sh : Sheet). record_of sh c.args.x c.args.y)
+    (laid-is t (sources-long z) (sinks-long z) c.requires.seated _ _ d e h.result r c.args.first c.requires.first_columns k.new.cols
+    (cols t.n _ _ s h.result c.args.first k.new.cols k.ensures))

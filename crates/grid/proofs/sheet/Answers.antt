@@ -9,10 +9,10 @@ use Rattle.grid.proofs.sheet.Goals as goal
 pub sheet_of-requires : goal.sheet_of-requires
 sheet_of-requires c =
     let w = c.args.setting in
-    let s = c.args.chart.now in (
-      seated w s c.graph-r.result (graphs-of _ _ _ c.graph-r.ensures) c.first_in-first.result c.first_in-first.ensures,
-      firsts-are w s c.graph-r.result (graphs-of _ _ _ c.graph-r.ensures) c.first_in-first.result c.first_in-first.ensures,
-    )
+    let s = c.args.chart.now in record {
+      seated = seated w s c.graph-r.result (graphs-of _ _ _ c.graph-r.ensures) c.first_in-first.result c.first_in-first.ensures;
+      first_columns = firsts-are w s c.graph-r.result (graphs-of _ _ _ c.graph-r.ensures) c.first_in-first.result c.first_in-first.ensures;
+    }
 
 pub returns : goal.returns
 returns c =

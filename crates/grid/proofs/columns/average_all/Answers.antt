@@ -37,7 +37,7 @@ loop-p-preserved c =
     let l = c.loop-p in
     let g = shape_in a.n a.to.now a.bounds.now in
     let R = take a.n a.rows.now in
-    let now = c.average_to.new.cols.0 in
+    let now = c.average_to.new.cols in
     let e = c.average_to.ensures ∙ ap (λ v. average_to R l.p v (take a.n l.cols) ++ drop a.n l.cols) w.ensures in (
       omega arith,
       step-take a.n (average_one g R) (average-same g R) a.cols.now l.p l.cols now l.invariant.1 l.invariant.2 e,

@@ -8,17 +8,17 @@ pub right_end-high-requires : goal.right_end-high-requires
 right_end-high-requires c =
     let a = c.args in
     let b = c.between-free in
-    next-beyond a.n a.p a.rows.now a.cols.now c.requires.boxes c.requires.p_lt_n b.result.low b.result.next b.ensures.0 b.ensures.1
+    next-beyond a.n a.p a.rows.now a.cols.now c.requires.boxes c.requires.p_lt_n b.result.low b.result.next b.ensures.low b.ensures.next
 
 pub clamped-requires : goal.clamped-requires
 clamped-requires c =
     let a = c.args in
     let b = c.between-free in
-    low-high a.n a.p a.rows.now a.cols.now c.requires.boxes c.requires.p_lt_n b.result.low b.result.next b.ensures.0 b.ensures.1 c.right_end-high.result c.right_end-high.ensures
+    low-high a.n a.p a.rows.now a.cols.now c.requires.boxes c.requires.p_lt_n b.result.low b.result.next b.ensures.low b.ensures.next c.right_end-high.result c.right_end-high.ensures
 
 pub returns : goal.returns
 returns c =
     let a = c.args in
     let b = c.between-free in
     let h = c.right_end-high in
-    average-is a.n a.p a.rows.now a.cols.now c.requires.boxes c.requires.p_lt_n b.result.low b.result.next b.ensures.0 b.ensures.1 h.result h.ensures c.clamped.result a.wanted c.clamped.ensures
+    average-is a.n a.p a.rows.now a.cols.now c.requires.boxes c.requires.p_lt_n b.result.low b.result.next b.ensures.low b.ensures.next h.result h.ensures c.clamped.result a.wanted c.clamped.ensures

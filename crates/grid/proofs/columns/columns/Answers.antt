@@ -21,7 +21,7 @@ round-requires c =
     let a = c.args in
     let m = c.first_moves in
     let l = c.loop-k in
-    record { led = c.requires.led; boxes = rounds_boxes a.n a.rows.now (shape_in a.n a.to.now a.bounds.now) (leads-long a.n a.to.now a.bounds.now) c.requires.led.nodes c.requires.inside.0 a.cols.now c.requires.inside.1 m.new.1.1.1.0 m.ensures l.k l.cols l.invariant.1 }
+    record { led = c.requires.led; boxes = rounds_boxes a.n a.rows.now (shape_in a.n a.to.now a.bounds.now) (leads-long a.n a.to.now a.bounds.now) c.requires.led.nodes c.requires.inside.0 a.cols.now c.requires.inside.1 m.new.cols m.ensures l.k l.cols l.invariant.1 }
 
 pub loop-k-preserved : goal.loop-k-preserved
 loop-k-preserved c =
@@ -29,8 +29,8 @@ loop-k-preserved c =
     let l = c.loop-k in
     let g = shape_in a.n a.to.now a.bounds.now in
     let R = take a.n a.rows.now in
-    let first = c.first_moves.new.bounds.1.1.0 in
-    let now = c.round.new.bounds.1.1.0 in (
+    let first = c.first_moves.new.cols in
+    let now = c.round.new.cols in (
       omega arith,
       step-take a.n (λ i. round g R) (round_same g R) first l.k l.cols now l.invariant.1 l.invariant.2 c.round.ensures,
       step-drop a.n (λ i. round g R) (round_same g R) first l.k l.cols now l.invariant.1 l.invariant.2 c.round.ensures,
@@ -44,4 +44,4 @@ returns c =
     let g = shape_in a.n a.to.now a.bounds.now in
     let R = take a.n a.rows.now in
     let e : l.k ≡ 8 = omega (arith, l.invariant.0) in
-    rounds_whole a.n a.rows.now (shape_in a.n a.to.now a.bounds.now) (leads-long a.n a.to.now a.bounds.now) c.requires.led.nodes c.requires.inside.0 a.cols.now c.requires.inside.1 m.new.1.1.1.0 m.ensures l.cols (steps_whole a.n (λ i. round g R) (round_same g R) m.new.1.1.1.0 8 l.cols (rw e at l.invariant.1) l.invariant.2)
+    rounds_whole a.n a.rows.now (shape_in a.n a.to.now a.bounds.now) (leads-long a.n a.to.now a.bounds.now) c.requires.led.nodes c.requires.inside.0 a.cols.now c.requires.inside.1 m.new.cols m.ensures l.cols (steps_whole a.n (λ i. round g R) (round_same g R) m.new.cols 8 l.cols (rw e at l.invariant.1) l.invariant.2)

@@ -41,10 +41,10 @@ returns-then-b-a c =
     few_stay a.n a.to.now a.bounds.now c.requires.led a.p c.requires.p_lt_n a.rows.now a.cols.now c.if-b-a.true
 
 pub largest_end-high-requires : goal.largest_end-high-requires
-largest_end-high-requires c = ends (goal.at.largest_end-high-requires c).Start
+largest_end-high-requires c = let e = ends (goal.at.largest_end-high-requires c).Start in record { a_le_b = e.0; by_index = e.1 }
 
 pub smallest_end-low-requires : goal.smallest_end-low-requires
-smallest_end-low-requires c = ends (goal.at.smallest_end-low-requires c).Start
+smallest_end-low-requires c = let e = ends (goal.at.smallest_end-low-requires c).Start in record { a_le_b = e.0; by_index = e.1 }
 
 pub target_of-goal-requires : goal.target_of-goal-requires
 target_of-goal-requires c =
@@ -52,20 +52,20 @@ target_of-goal-requires c =
     let high = c.largest_end-high in
     let h = columns-below a.n a.to.now a.bounds.now c.requires.led a.p c.requires.p_lt_n a.cols.now 144 (omega arith) c.requires.boxes.column in
     let l = smallest_le high.result (map (at a.cols.now) (part a.to.now (at a.bounds.now (2 * a.p)) (at a.bounds.now (2 * a.p + 2)))) in
-    (c.requires.boxes.column a.p c.requires.p_lt_n, omega (arith, c.smallest_end-low.ensures, high.ensures.0), omega (arith, high.ensures.0))
+    (c.requires.boxes.column a.p c.requires.p_lt_n, omega (arith, c.smallest_end-low.ensures, high.ensures.value), omega (arith, high.ensures.value))
 
 pub returns-then-is_taken : goal.returns-then-is_taken
 returns-then-is_taken c =
     let a = c.args in
     let high = c.largest_end-high in
     let low = c.smallest_end-low in
-    taken-stays a.n a.to.now a.bounds.now c.requires.led a.p c.requires.p_lt_n a.rows.now a.cols.now high.ensures.1 c.if-b-a.false
-    high.result low.result c.target_of-goal.result high.ensures.0 low.ensures c.target_of-goal.ensures (sym c.if-is_taken.true ∙ c.is_taken.ensures)
+    taken-stays a.n a.to.now a.bounds.now c.requires.led a.p c.requires.p_lt_n a.rows.now a.cols.now high.ensures.b_len c.if-b-a.false
+    high.result low.result c.target_of-goal.result high.ensures.value low.ensures c.target_of-goal.ensures (sym c.if-is_taken.true ∙ c.is_taken.ensures)
 
 pub returns : goal.returns
 returns c =
     let a = c.args in
     let high = c.largest_end-high in
     let low = c.smallest_end-low in
-    free_moves a.n a.to.now a.bounds.now c.requires.led a.p c.requires.p_lt_n a.rows.now a.cols.now high.ensures.1 c.if-b-a.false
-    high.result low.result c.target_of-goal.result high.ensures.0 low.ensures c.target_of-goal.ensures (sym c.if-is_taken.false ∙ c.is_taken.ensures)
+    free_moves a.n a.to.now a.bounds.now c.requires.led a.p c.requires.p_lt_n a.rows.now a.cols.now high.ensures.b_len c.if-b-a.false
+    high.result low.result c.target_of-goal.result high.ensures.value low.ensures c.target_of-goal.ensures (sym c.if-is_taken.false ∙ c.is_taken.ensures)

@@ -28,7 +28,7 @@ loop-p-preserved c =
     let l = c.loop-p in
     let f = first_move (shape_in a.n a.to.now a.bounds.now) (take a.n a.rows.now) in
     let same = move_same (shape_in a.n a.to.now a.bounds.now) (take a.n a.rows.now) in
-    let now = c.first_move.new.bounds.1.1.0 in (
+    let now = c.first_move.new.cols in (
       omega arith,
       step-take a.n f same a.cols.now l.p l.cols now l.invariant.1 l.invariant.2 c.first_move.ensures,
       step-drop a.n f same a.cols.now l.p l.cols now l.invariant.1 l.invariant.2 c.first_move.ensures,

@@ -39,11 +39,11 @@ pub overflow_add-pairs : goal.overflow_add-pairs
 overflow_add-pairs c = let h = last-column (begun (goal.at.overflow_add-pairs c).After-largest_of-last) in let e = c.largest_of-last.ensures in search rules
 
 pub new_columns-table-requires : goal.new_columns-table-requires
-new_columns-table-requires c = ((sizes (goal.at.new_columns-table-requires c).After-largest_of-last).1, (begun (goal.at.new_columns-table-requires c).After-largest_of-last).requires.1, (sizes (goal.at.new_columns-table-requires c).After-largest_of-last).2)
+new_columns-table-requires c = ((sizes (goal.at.new_columns-table-requires c).After-largest_of-last).1, (begun (goal.at.new_columns-table-requires c).After-largest_of-last).requires.start_bound, (sizes (goal.at.new_columns-table-requires c).After-largest_of-last).2)
 
 pub rename-requires : goal.rename-requires
 rename-requires c =
-    let b = (begun (goal.at.rename-requires c).After-largest_of-last).requires.0 in
+    let b = (begun (goal.at.rename-requires c).After-largest_of-last).requires.boxes in
     record { n_bound = b.few; inside = record { below = λ k h. omega (arith, b.column k h) } }
 
 pub returns : goal.returns
@@ -52,9 +52,9 @@ returns c =
     let a = z.args in
     let R = take a.n a.rows.now in
     let C = take a.n a.cols.now in
-    let pairs = (c.largest_of.result + 2 - a.start) / 2 in
-    let e : pairs ≡ pairs_from a.start C = ap (λ (m : ℕ). (m + 2 - a.start) / 2) c.largest_of.ensures in
+    let pairs = (c.largest_of-last.result + 2 - a.start) / 2 in
+    let e : pairs ≡ pairs_from a.start C = ap (λ (m : ℕ). (m + 2 - a.start) / 2) c.largest_of-last.ensures in
     let s = sizes (goal.at.returns c).After-largest_of-last in
-    let same = table_same a.n a.rows.now a.cols.now c.used_columns-used.result c.used_columns-used.ensures.tells (c.largest_of.result + 1) a.start pairs s.0 s.1 (omega (arith, z.requires.1, s.2)) in
+    let same = table_same a.n a.rows.now a.cols.now c.used_columns-used.result c.used_columns-used.ensures.tells (c.largest_of.result + 1) a.start pairs s.0 s.1 (omega (arith, z.requires.start_bound, s.2)) in
     c.rename.ensures
-    ∙ ap (λ (l : List ℕ). l ++ drop a.n a.cols.now) (fold_is R C a.start pairs c.new_columns-table.result z.requires.1 e (c.new_columns-table.ensures ∙ same))
+    ∙ ap (λ (l : List ℕ). l ++ drop a.n a.cols.now) (fold_is R C a.start pairs c.new_columns-table.result z.requires.start_bound e (c.new_columns-table.ensures ∙ same))

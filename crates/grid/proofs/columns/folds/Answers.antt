@@ -25,7 +25,7 @@ loop-start-preserved c =
     let a = c.args in
     let l = c.loop-start in
     let R = take a.n a.rows.now in
-    let now = c.fold.new.cols.0 in (
+    let now = c.fold.new.cols in (
       omega arith,
       step-take a.n (λ x. fold_from x R) (fold_same R) a.cols.now l.start l.cols now l.invariant.1 l.invariant.2 c.fold.ensures,
       step-drop a.n (λ x. fold_from x R) (fold_same R) a.cols.now l.start l.cols now l.invariant.1 l.invariant.2 c.fold.ensures,

@@ -9,10 +9,10 @@ pub average_all-requires : goal.average_all-requires
 average_all-requires c =
     let a = c.args in
     let f = c.folds in
-    record { led = c.requires.led; boxes = twice_boxes a.n a.rows.now a.cols.now c.requires.boxes f.new.1.0 f.ensures }
+    record { led = c.requires.led; boxes = twice_boxes a.n a.rows.now a.cols.now c.requires.boxes f.new.cols f.ensures }
 
 pub returns : goal.returns
 returns c =
     let a = c.args in
     let f = c.folds in
-    round_is a.n a.rows.now a.cols.now c.requires.boxes f.new.1.0 f.ensures (shape_in a.n a.to.now a.bounds.now) c.average_all.new.bounds.1.1.0 c.average_all.ensures
+    round_is a.n a.rows.now a.cols.now c.requires.boxes f.new.cols f.ensures (shape_in a.n a.to.now a.bounds.now) c.average_all.new.cols c.average_all.ensures

@@ -11,10 +11,7 @@ use Rattle.grid.specs.code.Leads.{part}
 use Rattle.grid.proofs.PartLaws.{part_none, part-down}
 use borrow.Author.Rules.{rules}
 use Rattle.grid.proofs.columns.smallest_end.Goals as goal
-use Rattle.grid.proofs.columns.smallest_end.Goals.{After-all-1, In-loop-k}
-
-long : (z : After-all-1) → length z.args.to.now ≡ 176
-long z = search rules
+use Rattle.grid.proofs.columns.smallest_end.Goals.{In-loop-k}
 
 -- the end leads to a node
 node : (c : In-loop-k) → at c.args.to.now (c.loop-k.k - 1) < c.args.n
@@ -35,14 +32,14 @@ pub loop-k-preserved-then-c-v : goal.loop-k-preserved-then-c-v
 loop-k-preserved-then-c-v c =
     let a = c.args in
     let l = c.loop-k in
-    let e = part-down a.to.now a.b l.k (omega arith) l.invariant.1 (omega (arith, long (goal.at.loop-k-preserved-then-c-v c).After-all-1)) in
+    let e = part-down a.to.now a.b l.k (omega arith) l.invariant.1 (omega arith) in
     (omega arith, omega arith, rw e (omega arith))
 
 pub loop-k-preserved : goal.loop-k-preserved
 loop-k-preserved c =
     let a = c.args in
     let l = c.loop-k in
-    let e = part-down a.to.now a.b l.k (omega arith) l.invariant.1 (omega (arith, long (goal.at.loop-k-preserved c).After-all-1)) in
+    let e = part-down a.to.now a.b l.k (omega arith) l.invariant.1 (omega arith) in
     (omega arith, omega arith, rw e (omega arith))
 
 pub returns : goal.returns

@@ -11,10 +11,7 @@ use Rattle.grid.specs.code.Leads.{part}
 use Rattle.grid.proofs.PartLaws.{part_none, part-down, part-long}
 use borrow.Author.Rules.{rules}
 use Rattle.grid.proofs.columns.sum_of.Goals as goal
-use Rattle.grid.proofs.columns.sum_of.Goals.{After-all-1, In-loop-k}
-
-long : (z : After-all-1) → length z.args.to.now ≡ 176
-long z = search rules
+use Rattle.grid.proofs.columns.sum_of.Goals.{In-loop-k}
 
 -- the node that the end leads to, and its column
 node : (c : In-loop-k) → at c.args.to.now (c.loop-k.k - 1) < c.args.n
@@ -45,7 +42,7 @@ loop-k-preserved c =
     let a = c.args in
     let l = c.loop-k in
     let h = column (goal.at.loop-k-preserved c).In-loop-k in
-    let e = part-down a.to.now a.b l.k (omega arith) l.invariant.1 (omega (arith, long (goal.at.loop-k-preserved c).After-all-1)) in
+    let e = part-down a.to.now a.b l.k (omega arith) l.invariant.1 (omega arith) in
     (omega arith, omega arith, omega arith, rw e (omega arith))
 
 pub returns : goal.returns
@@ -53,4 +50,4 @@ returns c =
     let a = c.args in
     let l = c.loop-k in
     let e : l.k ≡ a.a = omega arith in
-    record { value = (rw e at l.invariant.3, rw e at l.invariant.2); b_len = part-long a.to.now a.a a.b (omega arith) (omega (arith, long (goal.at.returns c).After-all-1)) }
+    record { value = (rw e at l.invariant.3, rw e at l.invariant.2); b_len = part-long a.to.now a.a a.b (omega arith) (omega arith) }

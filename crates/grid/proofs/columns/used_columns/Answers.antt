@@ -9,13 +9,7 @@ use Rattle.grid.specs.code.Arrays.{Tells}
 use Rattle.grid.proofs.UsedLaws.{bit_at, used_none, used_more, used_all}
 use borrow.Author.Rules.{rules}
 use Rattle.grid.proofs.columns.used_columns.Goals as goal
-use Rattle.grid.proofs.columns.used_columns.Goals.{After-xs-1, In-loop-k}
-
-rows_long : (z : After-xs-1) → length z.args.rows.now ≡ 48
-rows_long z = search rules
-
-cols-long : (z : After-xs-1) → length z.args.cols.now ≡ 48
-cols-long z = search rules
+use Rattle.grid.proofs.columns.used_columns.Goals.{In-loop-k}
 
 -- box k's row and column
 row : (i : In-loop-k) → at i.args.rows.now i.loop-k.k < 48
@@ -41,8 +35,8 @@ loop-k-preserved c =
     let l = c.loop-k in
     let x = column (goal.at.loop-k-preserved c).In-loop-k in
     let h = c.requires.few in
-    let hr : l.k < length a.rows.now = omega (arith, rows_long (goal.at.loop-k-preserved c).After-xs-1) in
-    let hc : l.k < length a.cols.now = omega (arith, cols-long (goal.at.loop-k-preserved c).After-xs-1) in
+    let hr : l.k < length a.rows.now = omega arith in
+    let hc : l.k < length a.cols.now = omega arith in
     let bit = bit_at (at a.cols.now l.k % 32) (omega arith) in
     (omega arith, rw length-set l.invariant.1, used_more a.rows.now a.cols.now l.used l.k hr hc l.invariant.1 (row (goal.at.loop-k-preserved c).In-loop-k) (omega arith) l.invariant.2 c.word_of-i.ensures.0 bit)
 
@@ -51,4 +45,4 @@ returns c =
     let a = c.args in
     let h = c.requires.few in
     let e : c.loop-k.k ≡ a.n = omega arith in
-    used_all a.n a.rows.now a.cols.now c.loop-k.used (omega (arith, rows_long (goal.at.returns c).After-xs-1)) (omega (arith, cols-long (goal.at.returns c).After-xs-1)) (rw e at c.loop-k.invariant.2)
+    used_all a.n a.rows.now a.cols.now c.loop-k.used (omega arith) (omega arith) (rw e at c.loop-k.invariant.2)

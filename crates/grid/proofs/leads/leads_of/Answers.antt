@@ -59,4 +59,4 @@ returns c =
     let e : p (goal.at.returns c).At-loop-p ≡ n = omega arith in
     let b = rw e at c.loop-p.invariant.3 in
     rw (c.loop-p.invariant.1, e)
-    (leads-shape n (from (goal.at.returns c).At-loop-p) (into (goal.at.returns c).At-loop-p) c.requires.0 c.requires.1 c.loop-p.bounds b, leads-led n (from (goal.at.returns c).At-loop-p) (into (goal.at.returns c).At-loop-p) c.requires.0 c.requires.1 c.loop-p.bounds b)
+    record { shape = leads-shape n (from (goal.at.returns c).At-loop-p) (into (goal.at.returns c).At-loop-p) c.requires.0 c.requires.1 c.loop-p.bounds b; led = leads-led n (from (goal.at.returns c).At-loop-p) (into (goal.at.returns c).At-loop-p) c.requires.0 c.requires.1 c.loop-p.bounds b }

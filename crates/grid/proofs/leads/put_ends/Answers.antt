@@ -16,7 +16,7 @@ use Rattle.grid.proofs.LeadLaws.{targets-more}
 use Rattle.grid.proofs.leads.put_ends.Invariants.{up_to}
 use borrow.Author.Rules.{rules}
 use Rattle.grid.proofs.leads.put_ends.Goals as goal
-use Rattle.grid.proofs.leads.put_ends.Goals.{At-loop-j, Start}
+use Rattle.grid.proofs.leads.put_ends.Goals.{At-loop-j, Start, then-e-j, else-e-j}
 
 owner-long : (z : Start) → length z.args.e.owner ≡ 88
 owner-long z = search rules
@@ -63,14 +63,14 @@ loop-j-preserved c =
     let a = c.args.e in
     let xs = up_to a c.args.p c.loop-j.j in
     let t = get_or a.to c.loop-j.j 0 in
-    ⊎_elim
-    (λ w.
-    let e = own (goal.at.loop-j-preserved c).At-loop-j c.loop-j-test.true w.0.true in
-    (search rules, w.2 ∙ rw (c.loop-j.invariant.1, c.loop-j.invariant.2, e) (sym (sets_append c.args.to.now c.args.k xs (one t))), w.3 ∙ rw (c.loop-j.invariant.2, e, length-one xs t) (omega arith)))
-    (λ w.
-    let e = targets-other c.args.p a.owner a.to c.loop-j.j (omega (arith, owner-long (goal.at.loop-j-preserved c).Start)) (omega (arith, to-long (goal.at.loop-j-preserved c).Start)) w.0.left in
-    (search rules, w.1 ∙ rw e c.loop-j.invariant.1, w.2 ∙ rw e c.loop-j.invariant.2))
-    c.if-e-j.branch
+    elim c.if-e-j.branch [
+      then-e-j w ↦
+        let e = own (goal.at.loop-j-preserved c).At-loop-j c.loop-j-test.true w.if-e-j.true in
+        (search rules, w.to-is ∙ rw (c.loop-j.invariant.1, c.loop-j.invariant.2, e) (sym (sets_append c.args.to.now c.args.k xs (one t))), w.end-is ∙ rw (c.loop-j.invariant.2, e, length-one xs t) (omega arith))
+    | else-e-j w ↦
+        let e = targets-other c.args.p a.owner a.to c.loop-j.j (omega (arith, owner-long (goal.at.loop-j-preserved c).Start)) (omega (arith, to-long (goal.at.loop-j-preserved c).Start)) w.if-e-j.false in
+        (search rules, w.to-is ∙ rw e c.loop-j.invariant.1, w.end-is ∙ rw e c.loop-j.invariant.2)
+    ]
 
 pub overflow_cast-result : goal.overflow_cast-result
 overflow_cast-result c =
