@@ -8,13 +8,7 @@ use Rattle.grid.specs.Columns.{at}
 use Rattle.grid.proofs.AverageLaws.{Free, OneMore, all-free, one_more}
 use borrow.Author.Rules.{rules}
 use Rattle.grid.proofs.columns.between.Goals as goal
-use Rattle.grid.proofs.columns.between.Goals.{After-xs-1, In-loop-k}
-
-rows_long : (z : After-xs-1) → z.args.n ≤ length z.args.rows.now
-rows_long z = let e : length z.args.rows.now ≡ 48 = search rules in let h = z.requires.few in omega arith
-
-cols-long : (z : After-xs-1) → z.args.n ≤ length z.args.cols.now
-cols-long z = let e : length z.args.cols.now ≡ 48 = search rules in let h = z.requires.few in omega arith
+use Rattle.grid.proofs.columns.between.Goals.{In-loop-k}
 
 small : (c : In-loop-k) → at c.args.cols.now (c.loop-k.k - 1) < 144
 small c = c.requires.column (c.loop-k.k - 1) (omega (arith, c.loop-k.invariant.0))
@@ -26,12 +20,12 @@ box : (c : In-loop-k) →
 box c =
     let a = c.args in
     let l = c.loop-k in
-    one_more a.n a.rows.now a.cols.now a.r a.x (rows_long c.before.before) (cols-long c.before.before) l.k l.low l.next c.loop-k-test.true l.invariant (omega (arith, small c))
+    one_more a.n a.rows.now a.cols.now a.r a.x (omega (arith, c.requires.few)) (omega (arith, c.requires.few)) l.k l.low l.next c.loop-k-test.true l.invariant (omega (arith, small c))
 
 pub loop-k-init : goal.loop-k-init
 loop-k-init c =
     let a = c.args in
-    all-free a.n a.rows.now a.cols.now a.r a.x (rows_long (goal.at.loop-k-init c).After-xs-1) (cols-long (goal.at.loop-k-init c).After-xs-1)
+    all-free a.n a.rows.now a.cols.now a.r a.x (omega (arith, c.requires.few)) (omega (arith, c.requires.few))
 
 pub overflow_add-low : goal.overflow_add-low
 overflow_add-low c = let h = small (goal.at.overflow_add-low c).In-loop-k in search rules
