@@ -43,7 +43,7 @@ def files(pattern):
 
 
 def is_function_file(path):
-    return os.path.basename(path) in ("Proof.antt", "Invariants.antt", "Answers.antt")
+    return "/proofs/" in path and os.path.basename(path) in ("Proof.antt", "Invariants.antt", "Answers.antt")
 
 
 def is_own(path):

@@ -21,7 +21,7 @@ use Rattle.path.specs.declared.Written.{Written}
 use Rattle.path.specs.declared.Written.TheVariants.{Done, Refused}
 use Rattle.path.specs.declared.LabelSpan.{LabelSpan}
 use Rattle.path.specs.Reader.{Answer as Path, read}
-use Rattle.path.specs.Answers.{sheetAnswer, written_of}
+use Rattle.path.specs.Answers.{sheet_answer, written_of}
 use Rattle.path.specs.Promises.{SheetText, IsSegment, IsWritten, IsRewritten}
 use Rattle.path.specs.Label.{Place, chart, table, Within, label_answer_of, label_part_of, span_in, label_span_of, IsLabelSpan}
 use Rattle.path.proofs.TextSizes.{own-text-most}
@@ -69,7 +69,7 @@ text-is s buf w out i r e =
     record {
       whole = e ∙ ap written_result i.whole;
       bytes = i.bytes;
-      text = λ z. i.text r.count (is-done buf (sheetAnswer s) (sheet-path s) w i.whole r e z);
+      text = λ z. i.text r.count (is-done buf (sheet_answer s) (sheet-path s) w i.whole r e z);
     }
 
 pub rewrite_is : (s buf : List ℕ) (w : Written) (out : List ℕ) → IsRewritten s buf w out → (r : CountResult) → r ≡ written_result w → IsRewriteResult s buf r out

@@ -40,7 +40,7 @@ use Rattle.path.specs.Reader.{Answer as Path, segments, refused as unpathed, end
 use Rattle.path.specs.Drawn.{segment_of}
 use Rattle.path.specs.Text.{text_of}
 use Rattle.path.specs.Segments.{drawn_of}
-use Rattle.path.specs.Answers.{sheetAnswer, count_of, given_of, written_of}
+use Rattle.path.specs.Answers.{sheet_answer, count_of, given_of, written_of}
 use Rattle.path.specs.Label.{Place, chart as in_chart, table as in_table, stand_ins, tabled, label_answer_of, label_part_of, label_span_of, answer_in, span_in}
 use Rattle.margalhosa.specs.Results.{box_result, segment_result, written_result, count_result, label_result, part_result, order_result}
 
@@ -165,7 +165,7 @@ abbrev pub Path-some : Path → Type 0
 Path-some (segments ds) = Unit {0}
 Path-some (unpathed n p) = 0 < n
 
-pub sheet-path : (s : SheetRecord) → Path-some (sheetAnswer s)
+pub sheet-path : (s : SheetRecord) → Path-some (sheet_answer s)
 sheet-path s = pick Path-some (sound_of s) (segments (drawn_of s)) (unpathed 14 0) tt (omega arith)
 
 verdict_some : (a b c d : Bool) (p q n : ℕ) (ds : List Drawn) → Path-some (given (cond a (Verdict-as-Refused 17 p) (cond b (cond c (Verdict-as-Refused 18 q) (cond d (Verdict-as-Refused 19 0) Fine)) (Verdict-as-Refused 17 n))) ds)

@@ -30,7 +30,7 @@ use Rattle.path.specs.declared.LabelAnswer.{LabelAnswer}
 use Rattle.path.specs.declared.LabelSpan.{LabelSpan}
 use Rattle.path.specs.Text.{text_of}
 use Rattle.path.specs.Segments.{drawn_of}
-use Rattle.path.specs.Answers.{sheetAnswer, given_of, written_of, left_of, givenNumbers, countNumbers, writtenNumbers}
+use Rattle.path.specs.Answers.{sheet_answer, given_of, written_of, left_of, given_numbers, count_numbers, written_numbers}
 use Rattle.path.specs.Reader.{Answer, read}
 use Rattle.path.specs.Promises.{SheetText, IsSegment}
 use Rattle.path.specs.Label.{tabled, LabelText, label_span_of}
@@ -80,8 +80,8 @@ segment_in n (Cubic a b p) = segment_by n 2 a b p
 segment_in n Close = segment_by n 3 no_pen no_pen no_pen
 
 abbrev pub segment_result : Given → SegmentResult
-segment_result (Drawn g) = segment_in (givenNumbers (Drawn g)) g
-segment_result (Given-as-Refused n p) = segment_by (givenNumbers (Given-as-Refused n p)) 0 no_pen no_pen no_pen
+segment_result (Drawn g) = segment_in (given_numbers (Drawn g)) g
+segment_result (Given-as-Refused n p) = segment_by (given_numbers (Given-as-Refused n p)) 0 no_pen no_pen no_pen
 
 -- what `margalhosa_segment` and `margalhosa_text_segment` promise of segment k of what a sheet or a path text gives: it is the one that `path` hands out
 pub record IsSegmentResult (k : ℕ) (a : Answer) (r : SegmentResult) : Type 0 where
@@ -93,17 +93,17 @@ abbrev pub count_by : Numbers → ℕ → CountResult
 count_by n count = record { refused = n.first; second = n.second; count = count }
 
 abbrev pub written_result : Written → CountResult
-written_result (Done n) = count_by (writtenNumbers (Done n)) n
-written_result (Refused n p) = count_by (writtenNumbers (Refused n p)) 0
+written_result (Done n) = count_by (written_numbers (Done n)) n
+written_result (Refused n p) = count_by (written_numbers (Refused n p)) 0
 
 abbrev pub count_result : Counted → CountResult
-count_result (Segments n) = count_by (countNumbers (Segments n)) n
-count_result (Count-as-Refused n p) = count_by (countNumbers (Count-as-Refused n p)) 0
+count_result (Segments n) = count_by (count_numbers (Segments n)) n
+count_result (Count-as-Refused n p) = count_by (count_numbers (Count-as-Refused n p)) 0
 
 -- what `margalhosa_text` promises: the buffer is `buf` before and `out` after
 pub record IsTextResult (s : SheetRecord) (buf : List ℕ) (r : CountResult) (out : List ℕ) : Type 0 where
-  pub whole : r ≡ written_result (written_of buf (sheetAnswer s))
-  pub bytes : out ≡ left_of buf (sheetAnswer s)
+  pub whole : r ≡ written_result (written_of buf (sheet_answer s))
+  pub bytes : out ≡ left_of buf (sheet_answer s)
   pub text : r.refused ≡ 0 → SheetText s (take r.count out)
 
 -- `margalhosa_rewrite`: the text s, byte for byte

@@ -7,7 +7,7 @@ ghost use Rattle.chart.specs.Read.{numbers_of};
 ghost use Rattle.grid.specs.Record.{box_answer_of};
 ghost use Rattle.grid.specs.Labelled.{labelled};
 ghost use Rattle.path.specs.Reader.{read};
-ghost use Rattle.path.specs.Answers.{sheetAnswer, count_of};
+ghost use Rattle.path.specs.Answers.{sheet_answer, count_of};
 ghost use Rattle.path.specs.Promises.{IsReading};
 ghost use Rattle.path.specs.Label.{label_answer_of};
 ghost use Rattle.margalhosa.specs.Results.{setting_of, IsSheetResult, no_pen, box_result, segment_result, IsSegmentResult, written_result, IsTextResult, count_result, IsRewriteResult, label_result, IsPartResult, IsOrderResult};
@@ -255,7 +255,7 @@ pub extern "C" fn margalhosa_box(sheet: SheetRecord, k: u32) -> BoxResult
 // Segment k of a sheet: 14, 15.
 #[unsafe(no_mangle)]
 pub extern "C" fn margalhosa_segment(sheet: SheetRecord, k: u32) -> SegmentResult
-    ensures { IsSegmentResult k (sheetAnswer sheet) result }
+    ensures { IsSegmentResult k (sheet_answer sheet) result }
 {
     given(path::sheet_segment(sheet, k as usize))
 }

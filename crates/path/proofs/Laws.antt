@@ -23,7 +23,7 @@ use Rattle.path.specs.Segments.{drawn_of}
 use Rattle.path.specs.Profile.{IsProfile, Continues, Refusal, Large, text_before, place_of}
 use Rattle.path.specs.Writer.{put}
 use Rattle.path.specs.Reader.{Answer, step, unread, run, drawn_all, ended, is_stopped, given, segments, refused, read}
-use Rattle.path.specs.Answers.{sheetAnswer, count_of, given_of, written_of, left_of, givenNumbers, countNumbers, writtenNumbers, refusalOf, segmentRefusal, textRefusal}
+use Rattle.path.specs.Answers.{sheet_answer, count_of, given_of, written_of, left_of, given_numbers, count_numbers, written_numbers, refusal_of, segment_refusal, text_refusal}
 use Rattle.path.specs.Svg.{Command, SvgPath}
 use Rattle.path.specs.Meaning.{MeanAll}
 use Rattle.path.proofs.Exact.{exact}
@@ -51,7 +51,7 @@ module _ (s : SheetRecord) where
     write_read = written_read (drawn_of s) (drawn-led s) (drawn-smalls s e)
 
     -- so a segment of the text is that segment of the sheet
-    pub same-segment : (k : ℕ) → given_of k (read (text_of (drawn_of s))) ≡ given_of k (sheetAnswer s)
+    pub same-segment : (k : ℕ) → given_of k (read (text_of (drawn_of s))) ≡ given_of k (sheet_answer s)
     same-segment k = rw (write_read, e)
 
 -- ---- positions: each number of halves that is handed out is that single-precision number, not rounded
@@ -231,25 +231,25 @@ pub refusing_19 : (s : List ℕ) (ds : List Drawn) → text_of ds ≡ s → Smal
 refusing_19 s ds e m n = ap read (sym e) ∙ other_19 ds m n
 
 -- ---- document 01's numbers of the answers, in the order that they are asked
-pub count-numbers : (a : Answer) → countNumbers (count_of a) ≡ refusalOf a
+pub count-numbers : (a : Answer) → count_numbers (count_of a) ≡ refusal_of a
 count-numbers (segments ds) = refl
 count-numbers (refused n p) = refl
 
-pub segment-numbers : (k : ℕ) (a : Answer) → givenNumbers (given_of k a) ≡ segmentRefusal k a
+pub segment-numbers : (k : ℕ) (a : Answer) → given_numbers (given_of k a) ≡ segment_refusal k a
 segment-numbers k (segments ds) = go (ltb k (length ds)) refl
   where
-    go : (u : Bool) → ltb k (length ds) ≡ u → givenNumbers (given_of k (segments ds)) ≡ segmentRefusal k (segments ds)
+    go : (u : Bool) → ltb k (length ds) ≡ u → given_numbers (given_of k (segments ds)) ≡ segment_refusal k (segments ds)
     go true e = rw e
     go false e = rw e
 segment-numbers k (refused n p) = refl
 
-pub text-numbers : (buf : List ℕ) (a : Answer) → writtenNumbers (written_of buf a) ≡ textRefusal buf a
+pub text-numbers : (buf : List ℕ) (a : Answer) → written_numbers (written_of buf a) ≡ text_refusal buf a
 text-numbers buf (segments ds) = go (leb (length (text_of ds)) (length buf)) refl
   where
     z : 0 + length (text_of ds) ≡ length (text_of ds)
     z = omega arith
 
-    go : (u : Bool) → leb (length (text_of ds)) (length buf) ≡ u → writtenNumbers (written_of buf (segments ds)) ≡ textRefusal buf (segments ds)
+    go : (u : Bool) → leb (length (text_of ds)) (length buf) ≡ u → written_numbers (written_of buf (segments ds)) ≡ text_refusal buf (segments ds)
     go true e = rw (z, e)
     go false e = rw (z, e)
 text-numbers buf (refused n p) = refl

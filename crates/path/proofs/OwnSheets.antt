@@ -24,7 +24,7 @@ use Rattle.path.specs.Drawn.{segment_of}
 use Rattle.path.specs.Text.{text_of}
 use Rattle.path.specs.Segments.{drawn_of}
 use Rattle.path.specs.code.Strokes.{doubled_of, size_of, stroke_at}
-use Rattle.path.specs.Answers.{sheetAnswer, given_of, written_of}
+use Rattle.path.specs.Answers.{sheet_answer, given_of, written_of}
 use Rattle.path.specs.Promises.{IsWritten}
 use Rattle.path.proofs.Sheets.{sound-is, drawn-long, by_number}
 
@@ -32,10 +32,10 @@ use Rattle.path.proofs.Sheets.{sound-is, drawn-long, by_number}
 pub record Serves (r : SheetRecord) : Type 0 where
   pub box : (k : ℕ) → k < r.count → box_answer_of r k ≡ record { answer = Ready; place = get_or r.boxes k no_box }
   pub no_box : (k : ℕ) → r.count ≤ k → box_answer_of r k ≡ refused_box 15
-  pub segment : (k : ℕ) → k < size_of r → given_of k (sheetAnswer r) ≡ Given-as-Drawn (segment_of (doubled_of (stroke_at r k)))
-  pub no_segment : (k : ℕ) → size_of r ≤ k → given_of k (sheetAnswer r) ≡ Given-as-Refused 15 0
-  pub text : (buf : List ℕ) → length (text_of (drawn_of r)) ≤ length buf → written_of buf (sheetAnswer r) ≡ Done (length (text_of (drawn_of r)))
-  pub no_text : (buf : List ℕ) → length buf < length (text_of (drawn_of r)) → written_of buf (sheetAnswer r) ≡ Refused 16 (length (text_of (drawn_of r)))
+  pub segment : (k : ℕ) → k < size_of r → given_of k (sheet_answer r) ≡ Given-as-Drawn (segment_of (doubled_of (stroke_at r k)))
+  pub no_segment : (k : ℕ) → size_of r ≤ k → given_of k (sheet_answer r) ≡ Given-as-Refused 15 0
+  pub text : (buf : List ℕ) → length (text_of (drawn_of r)) ≤ length buf → written_of buf (sheet_answer r) ≡ Done (length (text_of (drawn_of r)))
+  pub no_text : (buf : List ℕ) → length buf < length (text_of (drawn_of r)) → written_of buf (sheet_answer r) ≡ Refused 16 (length (text_of (drawn_of r)))
 
 -- so a sound one with whole arrays
 pub sound_serves : (r : SheetRecord) → length r.boxes ≡ 48 → length r.curves ≡ 88 → sound_of r ≡ true → Serves r

@@ -26,7 +26,7 @@ use Rattle.path.specs.Drawn.{segment_of, Exactly, ExactAll}
 use Rattle.path.specs.Segments.{drawn_of}
 use Rattle.path.specs.Profile.{Large, place_of}
 use Rattle.path.specs.Reader.{Answer, segments, refused, run, drawn_all, ended, is_stopped, given, read}
-use Rattle.path.specs.Answers.{sheetAnswer, count_of, given_of, written_of, left_of, givenNumbers, countNumbers, writtenNumbers}
+use Rattle.path.specs.Answers.{sheet_answer, count_of, given_of, written_of, left_of, given_numbers, count_numbers, written_numbers}
 use Rattle.path.specs.Promises.{Draws, SheetText, IsWritten, IsSegment, InProfile, Judged, accepted, stops, large, unled, IsReading, IsCount, IsRewritten}
 use Rattle.path.proofs.Derives.{derives, derives-back}
 use Rattle.path.proofs.Unique.{one-reading}
@@ -109,7 +109,7 @@ module _ (s : List ℕ) where
       }
 
   pub is-count : (r : Counted) → r ≡ count_of (read s) → IsCount s r × IsReading s
-  is-count r e = (record { whole = e; refused = ap countNumbers e ∙ laws.count-numbers (read s) }, reading)
+  is-count r e = (record { whole = e; refused = ap count_numbers e ∙ laws.count-numbers (read s) }, reading)
 
   same_bytes : (buf : List ℕ) (n : ℕ) → written_of buf (read s) ≡ Done n → (n ≡ length s) × (left_of buf (read s) ≡ s ++ drop n buf)
   same_bytes buf n e = go (read s) refl
@@ -127,7 +127,7 @@ module _ (s : List ℕ) where
     record {
       whole = p.0;
       bytes = p.1;
-      refused = ap writtenNumbers p.0 ∙ laws.text-numbers buf (read s);
+      refused = ap written_numbers p.0 ∙ laws.text-numbers buf (read s);
       same = λ n e. let b = same_bytes buf n (sym p.0 ∙ e) in (b.0, p.1 ∙ b.1);
     },
     reading,
@@ -136,27 +136,27 @@ module _ (s : List ℕ) where
 -- ---- the text of a sheet
 sheet-text : (s : SheetRecord) → sound_of s ≡ true → SheetText s (text_of (drawn_of s))
 sheet-text s e =
-    let a : sheetAnswer s ≡ segments (drawn_of s) = rw e in
+    let a : sheet_answer s ≡ segments (drawn_of s) = rw e in
     record { draws = draws-text (drawn_of s) (drawn-led s); reads = laws.write_read s e ∙ sym a }
 
-written-sheet : (s : SheetRecord) (buf : List ℕ) (n : ℕ) → written_of buf (sheetAnswer s) ≡ Done n → SheetText s (take n (left_of buf (sheetAnswer s)))
+written-sheet : (s : SheetRecord) (buf : List ℕ) (n : ℕ) → written_of buf (sheet_answer s) ≡ Done n → SheetText s (take n (left_of buf (sheet_answer s)))
 written-sheet s buf n e = go (sound_of s) refl
   where
-    go : (b : Bool) → sound_of s ≡ b → SheetText s (take n (left_of buf (sheetAnswer s)))
+    go : (b : Bool) → sound_of s ≡ b → SheetText s (take n (left_of buf (sheet_answer s)))
     go true i =
-        let a : sheetAnswer s ≡ segments (drawn_of s) = rw i in
+        let a : sheet_answer s ≡ segments (drawn_of s) = rw i in
         let w : written_of buf (segments (drawn_of s)) ≡ Done n = ap (λ (z : Answer). written_of buf z) (sym a) ∙ e in
         subst (SheetText s) (sym (ap (λ (z : Answer). take n (left_of buf z)) a ∙ written-text buf (drawn_of s) n w)) (sheet-text s i)
     go false i =
-        let a : sheetAnswer s ≡ refused 14 0 = rw i in
+        let a : sheet_answer s ≡ refused 14 0 = rw i in
         not_done 14 0 n (ap (λ (z : Answer). written_of buf z) (sym a) ∙ e)
 
-pub is-written : (s : SheetRecord) (buf : List ℕ) (r : Written) (out : List ℕ) → (r ≡ written_of buf (sheetAnswer s)) × (out ≡ left_of buf (sheetAnswer s)) → IsWritten s buf r out
+pub is-written : (s : SheetRecord) (buf : List ℕ) (r : Written) (out : List ℕ) → (r ≡ written_of buf (sheet_answer s)) × (out ≡ left_of buf (sheet_answer s)) → IsWritten s buf r out
 is-written s buf r out p =
     record {
       whole = p.0;
       bytes = p.1;
-      refused = ap writtenNumbers p.0 ∙ laws.text-numbers buf (sheetAnswer s);
+      refused = ap written_numbers p.0 ∙ laws.text-numbers buf (sheet_answer s);
       text = λ n e. subst (λ (z : List ℕ). SheetText s (take n z)) (sym p.1) (written-sheet s buf n (sym p.0 ∙ e));
     }
 
@@ -173,16 +173,16 @@ is-segment : (k : ℕ) (a : Answer) → ((ds : List Drawn) → a ≡ segments ds
 is-segment k a h r e =
     record {
       whole = e;
-      refused = ap givenNumbers e ∙ laws.segment-numbers k a;
+      refused = ap given_numbers e ∙ laws.segment-numbers k a;
       exact = λ ds g i q.
           let d = drawn-is k ds g (ap (λ (z : Answer). given_of k z) (sym i) ∙ sym e ∙ q) in
           (d.1, all_in (λ (u : Drawn). All Exactly (numbers_of u)) ds k (Move 0 0) d.0 (h ds i));
     }
 
-pub is-sheet-segment : (s : SheetRecord) (k : ℕ) (r : Given) → r ≡ given_of k (sheetAnswer s) → IsSegment k (sheetAnswer s) r
-is-sheet-segment s k r e = is-segment k (sheetAnswer s) (λ ds i. exact-by ds (sound_of s) refl i) r e
+pub is-sheet-segment : (s : SheetRecord) (k : ℕ) (r : Given) → r ≡ given_of k (sheet_answer s) → IsSegment k (sheet_answer s) r
+is-sheet-segment s k r e = is-segment k (sheet_answer s) (λ ds i. exact-by ds (sound_of s) refl i) r e
   where
-    exact-by : (ds : List Drawn) (b : Bool) → sound_of s ≡ b → sheetAnswer s ≡ segments ds → ExactAll ds
+    exact-by : (ds : List Drawn) (b : Bool) → sound_of s ≡ b → sheet_answer s ≡ segments ds → ExactAll ds
     exact-by ds true o i = let d : drawn_of s ≡ ds = cc in subst ExactAll d (laws.sheet-exact s o)
     exact-by ds false o i = let z : ◌≡◌ {A = ℕ} 0 1 = cc in absurd (omega arith)
 

@@ -33,7 +33,7 @@ use Rattle.path.specs.declared.Written.TheVariants.{Done}
 use Rattle.path.specs.Number.{limit, limit_halves, digits, number_text}
 use Rattle.path.specs.Text.{numbers_of, numbers_text, segment_text, rest_text, text_of}
 use Rattle.path.specs.Segments.{box_drawn, curve_drawn, joined, drawn_of}
-use Rattle.path.specs.Answers.{sheetAnswer, written_of}
+use Rattle.path.specs.Answers.{sheet_answer, written_of}
 use Rattle.path.proofs.Numbers.{length-one, length-tens, length-even, length_odd}
 use Rattle.path.proofs.Readings.{both}
 use Rattle.path.proofs.Sheets.{Sound, sound-is, BoxIn, box_in, CurveIn, curve_in, take-most}
@@ -243,7 +243,7 @@ module _ (v : Setting) (s : List ℕ) (x y : ℕ) (a : Outcome) (i : IsSheet v s
       subst (λ (r : SheetRecord). length (text_of (drawn_of r)) ≤ 9467) (sym w.is) (sheet-text-most v s x y w.sheet w.laid)
 
   -- so a buffer of that length is never too short
-  pub own-written : (buf : List ℕ) → 9467 ≤ length buf → written_of buf (sheetAnswer a.sheet) ≡ Done (length (text_of (drawn_of a.sheet)))
+  pub own-written : (buf : List ℕ) → 9467 ≤ length buf → written_of buf (sheet_answer a.sheet) ≡ Done (length (text_of (drawn_of a.sheet)))
   own-written buf l = (own_serves v s x y a i q).text buf (omega (arith, own-text-most))
 
   -- and every number in it is whole

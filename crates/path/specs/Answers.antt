@@ -18,8 +18,8 @@ use Rattle.path.specs.Reader.{Answer, segments, refused}
 use Rattle.path.specs.Writer.{placed, answered}
 
 -- 14: 'A sheet built by a caller with a count past its arrays or a position past 8388608'
-abbrev pub sheetAnswer : SheetRecord → Answer
-sheetAnswer s = cond (sound_of s) (segments (drawn_of s)) (refused 14 0)
+abbrev pub sheet_answer : SheetRecord → Answer
+sheet_answer s = cond (sound_of s) (segments (drawn_of s)) (refused 14 0)
 
 abbrev pub count_of : Answer → Counted
 count_of (segments ds) = Segments (length ds)
@@ -40,27 +40,27 @@ left_of buf (segments ds) = placed buf 0 (text_of ds)
 left_of buf (refused n p) = buf
 
 -- ---- document 01's two numbers of each case; 0 0 where nothing is refused
-abbrev pub givenNumbers : Given → Numbers
-givenNumbers (Given-as-Drawn g) = numbers 0 0
-givenNumbers (Given-as-Refused n p) = numbers n p
+abbrev pub given_numbers : Given → Numbers
+given_numbers (Given-as-Drawn g) = numbers 0 0
+given_numbers (Given-as-Refused n p) = numbers n p
 
-abbrev pub countNumbers : Counted → Numbers
-countNumbers (Segments n) = numbers 0 0
-countNumbers (Count-as-Refused n p) = numbers n p
+abbrev pub count_numbers : Counted → Numbers
+count_numbers (Segments n) = numbers 0 0
+count_numbers (Count-as-Refused n p) = numbers n p
 
-abbrev pub writtenNumbers : Written → Numbers
-writtenNumbers (Done n) = numbers 0 0
-writtenNumbers (Refused n p) = numbers n p
+abbrev pub written_numbers : Written → Numbers
+written_numbers (Done n) = numbers 0 0
+written_numbers (Refused n p) = numbers n p
 
 -- the same by what a sheet or a path text gives: its refusal first; then 15 of a segment number, 16 of a buffer with the length needed
-abbrev pub refusalOf : Answer → Numbers
-refusalOf (segments ds) = numbers 0 0
-refusalOf (refused n p) = numbers n p
+abbrev pub refusal_of : Answer → Numbers
+refusal_of (segments ds) = numbers 0 0
+refusal_of (refused n p) = numbers n p
 
-abbrev pub segmentRefusal : ℕ → Answer → Numbers
-segmentRefusal k (segments ds) = cond (ltb k (length ds)) (numbers 0 0) (numbers 15 0)
-segmentRefusal k (refused n p) = numbers n p
+abbrev pub segment_refusal : ℕ → Answer → Numbers
+segment_refusal k (segments ds) = cond (ltb k (length ds)) (numbers 0 0) (numbers 15 0)
+segment_refusal k (refused n p) = numbers n p
 
-abbrev pub textRefusal : List ℕ → Answer → Numbers
-textRefusal buf (segments ds) = cond (leb (length (text_of ds)) (length buf)) (numbers 0 0) (numbers 16 (length (text_of ds)))
-textRefusal buf (refused n p) = numbers n p
+abbrev pub text_refusal : List ℕ → Answer → Numbers
+text_refusal buf (segments ds) = cond (leb (length (text_of ds)) (length buf)) (numbers 0 0) (numbers 16 (length (text_of ds)))
+text_refusal buf (refused n p) = numbers n p

@@ -15,7 +15,7 @@ use Rattle.path.specs.Number.{digits, number_text}
 use Rattle.path.specs.Text.{letter_of, numbers_of, text_of}
 use Rattle.path.specs.Segments.{drawn_of}
 use Rattle.path.specs.Reader.{Answer, segments, refused, read}
-use Rattle.path.specs.Answers.{sheetAnswer, given_of, written_of, givenNumbers, writtenNumbers}
+use Rattle.path.specs.Answers.{sheet_answer, given_of, written_of, given_numbers, written_numbers}
 
 -- ---- tests
 -- letters and numbers, one after the other: for each letter how many numbers follow is known
@@ -80,10 +80,10 @@ data Case : Type 0 where
 holds : Case → Bool
 unfolding read text_of number_text digits sound_of drawn_of
 holds (reads s a b) = counted (read (ascii s)) a b
-holds (gives s k a b) = numbered (givenNumbers (given_of k (read (ascii s)))) a b
-holds (rewrites s n a b) = numbered (writtenNumbers (written_of (replicate n 0) (read (ascii s)))) a b
+holds (gives s k a b) = numbered (given_numbers (given_of k (read (ascii s)))) a b
+holds (rewrites s n a b) = numbered (written_numbers (written_of (replicate n 0) (read (ascii s)))) a b
 holds (means s ds) = same (text_of ds) (ascii s) && reading (read (ascii s)) ds
-holds (has s a b) = counted (sheetAnswer s) a b
+holds (has s a b) = counted (sheet_answer s) a b
 holds (draws s t) = same (text_of (drawn_of s)) (ascii t)
 
 cases : List Case

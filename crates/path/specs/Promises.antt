@@ -17,7 +17,7 @@ use Rattle.path.specs.Drawn.{segment_of, Exactly}
 use Rattle.path.specs.Segments.{drawn_of}
 use Rattle.path.specs.Profile.{Refusal, Large, place_of}
 use Rattle.path.specs.Reader.{Answer, segments, refused, read}
-use Rattle.path.specs.Answers.{sheetAnswer, count_of, given_of, written_of, left_of, givenNumbers, countNumbers, writtenNumbers, refusalOf, segmentRefusal, textRefusal}
+use Rattle.path.specs.Answers.{sheet_answer, count_of, given_of, written_of, left_of, given_numbers, count_numbers, written_numbers, refusal_of, segment_refusal, text_refusal}
 use Rattle.path.specs.Svg.{Command, SvgPath}
 use Rattle.path.specs.Meaning.{MeanAll}
 
@@ -54,19 +54,19 @@ pub record IsReading (s : List ℕ) : Type 0 where
 -- `text_count`
 pub record IsCount (s : List ℕ) (r : Counted) : Type 0 where
   pub whole : r ≡ count_of (read s)
-  pub refused : countNumbers r ≡ refusalOf (read s)
+  pub refused : count_numbers r ≡ refusal_of (read s)
 
 -- `rewrite`: the answer r, and the buffer, `buf` before and `out` after; what is written is the text, byte for byte
 pub record IsRewritten (s buf : List ℕ) (r : Written) (out : List ℕ) : Type 0 where
   pub whole : r ≡ written_of buf (read s)
   pub bytes : out ≡ left_of buf (read s)
-  pub refused : writtenNumbers r ≡ textRefusal buf (read s)
+  pub refused : written_numbers r ≡ text_refusal buf (read s)
   pub same : (n : ℕ) → r ≡ Done n → (n ≡ length s) × (out ≡ s ++ drop n buf)
 
 -- ---- segment k of what a sheet or a path text gives: `sheet_segment`, `text_segment`
 pub record IsSegment (k : ℕ) (a : Answer) (r : Given) : Type 0 where
   pub whole : r ≡ given_of k a
-  pub refused : givenNumbers r ≡ segmentRefusal k a
+  pub refused : given_numbers r ≡ segment_refusal k a
   -- each pen position is exactly the whole or half number of the definition, none rounded
   pub exact : (ds : List Drawn) (g : Segment) → a ≡ segments ds → r ≡ Given-as-Drawn g → (g ≡ segment_of (get_or ds k (Move 0 0))) × All Exactly (numbers_of (get_or ds k (Move 0 0)))
 
@@ -74,11 +74,11 @@ pub record IsSegment (k : ℕ) (a : Answer) (r : Given) : Type 0 where
 -- t is the text of the sheet s: it draws the sheet's segments, those that `sheet_segment` hands out, and our reader reads the same
 pub record SheetText (s : SheetRecord) (t : List ℕ) : Type 0 where
   pub draws : Draws t (drawn_of s)
-  pub reads : read t ≡ sheetAnswer s
+  pub reads : read t ≡ sheet_answer s
 
 -- `write_sheet`: the answer r, and the buffer, `buf` before and `out` after
 pub record IsWritten (s : SheetRecord) (buf : List ℕ) (r : Written) (out : List ℕ) : Type 0 where
-  pub whole : r ≡ written_of buf (sheetAnswer s)
-  pub bytes : out ≡ left_of buf (sheetAnswer s)
-  pub refused : writtenNumbers r ≡ textRefusal buf (sheetAnswer s)
+  pub whole : r ≡ written_of buf (sheet_answer s)
+  pub bytes : out ≡ left_of buf (sheet_answer s)
+  pub refused : written_numbers r ≡ text_refusal buf (sheet_answer s)
   pub text : (n : ℕ) → r ≡ Done n → SheetText s (take n out)

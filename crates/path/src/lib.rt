@@ -1,10 +1,10 @@
 // Document 01, module 9: the segments of a sheet, its whole text, a path text read and written again, and labels.
-// A sheet and a path text each give segments or a refusal (`sheetAnswer`, `read`); the promises say what of these is handed out or written, and that `read` judges a text in document 01's words.
+// A sheet and a path text each give segments or a refusal (`sheet_answer`, `read`); the promises say what of these is handed out or written, and that `read` judges a text in document 01's words.
 #![tactic(auto)]
 
 ghost use Rattle.std.specs.Prelude.{◌≡◌};
 ghost use Rattle.path.specs.Reader.{read};
-ghost use Rattle.path.specs.Answers.{sheetAnswer};
+ghost use Rattle.path.specs.Answers.{sheet_answer};
 ghost use Rattle.path.specs.Promises.{IsSegment, IsWritten, IsReading, IsCount, IsRewritten};
 ghost use Rattle.grid.specs.Labelled.{labelled, label_outcome_of};
 ghost use Rattle.path.specs.Label.{stand_ins, tabled, label_answer_of, IsLabelPart, IsLabelSpan};
@@ -89,7 +89,7 @@ pub struct LabelSpan {
 
 // Segment k of a sheet: 14, then 15.
 pub fn sheet_segment(s: SheetRecord, k: usize) -> Given
-    ensures { IsSegment k (sheetAnswer s) result }
+    ensures { IsSegment k (sheet_answer s) result }
 {
     if !sound(s) {
         return Given::Refused(14, 0);

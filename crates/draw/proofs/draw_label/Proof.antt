@@ -18,17 +18,17 @@ use borrow.Author.Rules.{rules}
 use Rattle.draw.proofs.draw_label.Statement.{statement}
 use Rattle.draw.proofs.draw_label.Tie as tie
 
-abbrev isReady : Answer → Bool
-isReady Ready = true
-isReady (Refused n m) = false
+abbrev is_ready : Answer → Bool
+is_ready Ready = true
+is_ready (Refused n m) = false
 
 -- with that table, label i of box k of a chart's sheet is given where it is there
 there : (s t : List ℕ) → t ≡ stand_ins → (k i : ℕ) {l : LabelAnswer} → l ≡ label_answer_of t (labelled Default s 0 0 k i) →
-    (sh : Sheet) → sheeted Default s 0 0 ≡ drawn sh → isReady l.answer ≡ (label_of sh k i).found
+    (sh : Sheet) → sheeted Default s 0 0 ≡ drawn sh → is_ready l.answer ≡ (label_of sh k i).found
 unfolding labelled
 there s t f k i e sh q = rw (e, q) (go (label_of sh k i).found)
   where
-    go : (b : Bool) → isReady (label_answer_of t (cond b (ready (label_of sh k i)) (refusal 15 0))).answer ≡ b
+    go : (b : Bool) → is_ready (label_answer_of t (cond b (ready (label_of sh k i)) (refusal 15 0))).answer ≡ b
     go true = rw (table-own t f)
     go false = refl
 
