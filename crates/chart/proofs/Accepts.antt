@@ -1,6 +1,6 @@
 -- An accepted chart is within document 01's limits; and the answer of `read` is the definition's.
 -- Assumes nothing.
-use Prim.Native.Nat.{ℕ, zero, suc, ◌+◌, ◌-◌, ◌*◌, ◌≤◌, ◌<◌}
+use Prim.Native.Nat.{ℕ, suc, ◌+◌, ◌-◌, ◌*◌, ◌≤◌, ◌<◌}
 use native.Mathlib.Omega.{arith}
 use mathlib.Core.Path.{◌≡◌, refl, ap, sym, ◌∙◌}
 use mathlib.Core.Option.{Option, none, some}
@@ -11,17 +11,16 @@ use lib.ListN.{length, get_or}
 use borrow.Author.Tests.{lt-ltb, le-ltb, le-leb, lt-leb, ne_eqb, ltb-true, ltb-false, leb-true, leb-false}
 use Rattle.chart.specs.declared.Line.{Line}
 use Rattle.chart.specs.declared.Board.{Board as Tables}
-use Rattle.chart.specs.declared.Answer.{Answer}
-use Rattle.chart.specs.declared.Answer.TheVariants.{Ready, Refused}
+use Rattle.chart.specs.declared.Answer.TheVariants.{Ready}
 use Rattle.chart.specs.declared.Outcome.{Outcome}
 use Rattle.chart.specs.declared.Setting.{Setting}
 use Rattle.chart.specs.declared.Setting.TheVariants.{Default, Strict}
 use Rattle.chart.specs.declared.reader.Nodes.{Nodes}
 use Rattle.chart.specs.declared.judge.Outside.{Outside}
 use Rattle.chart.specs.declared.judge.Outside.TheVariants.{Nothing, Target}
-use Rattle.chart.specs.Chart.{Part, End, Node, Board, Reading, ready, refusal, Got, got, refused, number_of, ends_of, targets, targets_of, first_outside, outside_in, judge_targets, judge, judged, under_two, bodies, chart}
+use Rattle.chart.specs.Chart.{End, Node, Board, Reading, ready, refusal, Got, got, refused, number_of, ends_of, targets, targets_of, first_outside, outside_in, judge_targets, judge, judged, under_two, bodies, chart}
 use Rattle.chart.specs.Tables.{item_of, line_of, sources_from, lines_from, sinks_from, board_tables}
-use Rattle.chart.specs.code.Filled.{empty_board, board_of, tables_of, with_nodes}
+use Rattle.chart.specs.code.Filled.{empty_board, board_of, tables_of}
 use Rattle.chart.specs.code.Steps.{nodes_of, outside_of}
 use Rattle.laws.specs.Lists.{All, capped}
 use Rattle.laws.proofs.Lists.{all_map, all-flat, capped-room, capped-full}

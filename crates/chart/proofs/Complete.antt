@@ -1,18 +1,18 @@
 -- Each board within the limits, written as document 01 says, is accepted and read as itself.
 -- Assumes nothing.
-use Prim.Native.Nat.{ℕ, zero, suc, ◌+◌, ◌-◌, ◌*◌, ◌/◌, ◌%◌, ◌≤◌, ◌<◌}
+use Prim.Native.Nat.{ℕ, zero, suc, ◌+◌, ◌*◌, ◌/◌, ◌%◌, ◌≤◌, ◌<◌}
 use native.Mathlib.Omega.{arith}
 use native.Mathlib.Numerals.{add-one}
 use native.Mathlib.Nat.{div-add-mod', mod-lt}
 use mathlib.Core.Path.{◌≡◌, refl, ap, sym, ◌∙◌}
-use mathlib.Core.Option.{Option, none, some}
+use mathlib.Core.Option.{none}
 use mathlib.Core.Bool.{true}
 use mathlib.Core.List.{List, [], ◌∷◌, ◌++◌, append_assoc, append-nil}
-use lib.Dec.{eqb, leb, ltb}
+use lib.Dec.{leb}
 use lib.ListN.{length, get_or, drop, length-append}
 use lib.Seq.{drop-append_seam}
-use borrow.Author.Tests.{lt-ltb, le-ltb, le-leb, lt-leb, eq-eqb}
-use Rattle.chart.specs.Chart.{Part, End, Node, Board, ready, Got, got, refused, ◌then◌, byte, many, characters, text, end, items, body, entry, bodies, ends_of, targets, targets_of, first_outside, outside_in, judge_targets, judge, judged, chart, byte_c2, byte_b0}
+use borrow.Author.Tests.{lt-ltb, le-ltb, le-leb, eq-eqb}
+use Rattle.chart.specs.Chart.{ready, Got, got, byte, many, characters, text, end, body, entry, bodies, ends_of, targets, targets_of, first_outside, outside_in, chart, byte_c2, byte_b0}
 use Rattle.chart.specs.Text.{Texted, empty, plain, degree, characters_in}
 use Rattle.laws.specs.Lists.{All}
 use Rattle.chart.specs.declared.Setting.{Setting}

@@ -1,15 +1,14 @@
 -- The tables of a board hold that board.
 -- Assumes nothing.
-use Prim.Native.Nat.{ℕ, zero, suc, ◌+◌, ◌-◌, ◌*◌, ◌%◌, ◌≤◌, ◌<◌}
+use Prim.Native.Nat.{ℕ, suc, ◌+◌, ◌*◌, ◌≤◌, ◌<◌}
 use native.Mathlib.Omega.{arith}
-use native.Mathlib.Numerals.{add-one}
-use native.Mathlib.Nat.{not-suc-le-zero, le_of_suc-le-suc, mod-eq_of_lt, zero-add}
-use mathlib.Core.Path.{◌≡◌, refl, ap, sym, ◌∙◌}
-use mathlib.Core.Bool.{Bool, true, false, cond}
+use native.Mathlib.Nat.{mod-eq_of_lt}
+use mathlib.Core.Path.{◌≡◌, refl, ap, ◌∙◌}
+use mathlib.Core.Bool.{Bool, true, false}
 use mathlib.Core.List.{List, [], ◌∷◌, ◌++◌, map, append_assoc, append-nil}
-use lib.Dec.{eqb, leb, ltb}
-use lib.ListN.{length, get_or, set, take, length-append, length-map}
-use borrow.Author.Tests.{lt-ltb, le-ltb, le-leb, lt-leb, eq-eqb, ne_eqb, ltb-true, ltb-false}
+use lib.Dec.{ltb}
+use lib.ListN.{length, length-append, length-map}
+use borrow.Author.Tests.{le-ltb, ltb-true, ltb-false}
 use Rattle.chart.specs.declared.Item.{Item}
 use Rattle.chart.specs.declared.Table.{Table}
 use Rattle.chart.specs.declared.Line.{Line}
@@ -17,8 +16,8 @@ use Rattle.chart.specs.declared.Lines.{Lines}
 use Rattle.chart.specs.declared.Board.{Board as Tables}
 use Rattle.chart.specs.Chart.{Part, End, Node, Board, ends_of}
 use Rattle.chart.specs.Tables.{no_item, no_line, item_of, line_of, sources_from, lines_from, sinks_from, board_tables}
-use Rattle.chart.specs.code.Filled.{empty_table, empty_lines, empty_board, end_of, part_of, items_of, lines_of, node_of, board_from, board_of, pushed, pushed_line, push_all, push_lines, with_node, with_nodes, tables_of}
-use Rattle.laws.specs.Lists.{All, one, flat, padded, capped}
+use Rattle.chart.specs.code.Filled.{end_of, part_of, items_of, lines_of, node_of, board_from, board_of, pushed, pushed_line, push_all, push_lines, with_nodes, tables_of}
+use Rattle.laws.specs.Lists.{All, one, padded, capped}
 use Rattle.laws.proofs.Lists.{length-one, all_map, tabulate_list, owned-flat, padded-set, padded-full, take-padded, capped-room, capped-full, capped-past}
 
 abbrev pub table_of : List Item → Table

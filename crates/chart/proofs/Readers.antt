@@ -1,12 +1,11 @@
 -- The readers' answers: one turn of each loop, and what an answer says of the reading behind it.
 -- Assumes nothing.
-use Prim.Native.Nat.{ℕ, zero, suc, ◌+◌, ◌-◌, ◌*◌, ◌%◌, ◌≤◌, ◌<◌}
+use Prim.Native.Nat.{ℕ, zero, suc, ◌+◌, ◌-◌, ◌%◌, ◌≤◌, ◌<◌}
 use native.Mathlib.Omega.{arith}
-use native.Mathlib.Nat.{not-suc-le-zero}
 use native.Mathlib.Numerals.{add-one}
 use mathlib.Core.Path.{◌≡◌, refl, ap, sym, ◌∙◌}
 use mathlib.Core.Bool.{Bool, true, false}
-use mathlib.Core.List.{List, [], ◌∷◌, ◌++◌}
+use mathlib.Core.List.{List, ◌∷◌}
 use lib.Dec.{eqb, ltb}
 use lib.ListN.{length, get_or}
 use borrow.Author.Tests.{lt-ltb, le-ltb, ltb-false, le-leb, lt-leb, eq-eqb, ne_eqb}
@@ -26,7 +25,7 @@ use Rattle.chart.specs.declared.reader.Ends.{Ends}
 use Rattle.chart.specs.declared.reader.Texts.{Texts}
 use Rattle.chart.specs.declared.reader.Nodes.{Nodes}
 use Rattle.chart.specs.Tables.{item_of, line_of}
-use Rattle.chart.specs.code.Filled.{empty_table, empty_lines, empty_board, pushed, pushed_line, push_all, push_lines, with_node, with_nodes}
+use Rattle.chart.specs.code.Filled.{empty_table, empty_lines, empty_board, pushed, pushed_line, push_all, push_lines, with_node}
 use Rattle.chart.specs.code.Steps.{character_at, step_of, skip_of, span_of, end_of, ends_of, texts_of, counts_of, items_read, node_of, nodes_of, skips, reads-ends, reads-texts}
 use Rattle.chart.proofs.Gives.{Gives, gives_then, gives_if, gives_or, gives_unless, Byte, byte-gives, low-no-sign, text-no-sign}
 

@@ -6,7 +6,7 @@ use Rattle.std.specs.Prelude.{ℕ, ◌≡◌, refl, Bool, true, ◌&&◌, List, 
 use Prim.Native.String.{String}
 use Rattle.chart.specs.declared.Setting.TheVariants.{Default, Strict}
 use Rattle.laws.specs.Bytes.{hex, all_of}
-use Rattle.chart.specs.Chart.{Part, End, Node, Board, Reading, ready, refusal, chart}
+use Rattle.chart.specs.Chart.{Part, Reading, ready, refusal, chart}
 
 data Case : Type 0 where
   is : String → ℕ → ℕ → Case

@@ -1,7 +1,7 @@
 -- Charts written: document 01, module 1, as a writer would follow it. `proofs/Complete.antt` shows that each board within the limits,
 -- written so, is accepted and read as itself.
 -- Assumes nothing.
-use Rattle.std.specs.Prelude.{ℕ, zero, suc, ◌+◌, ◌*◌, ◌/◌, ◌%◌, ◌≤◌, ◌<◌, ◌≡◌, List, [], ◌∷◌, ◌++◌, length}
+use Rattle.std.specs.Prelude.{ℕ, ◌+◌, ◌*◌, ◌/◌, ◌%◌, ◌≤◌, ◌<◌, ◌≡◌, List, [], ◌∷◌, ◌++◌, length}
 use Rattle.chart.specs.Chart.{Part, End, Node, Board}
 use Rattle.chart.specs.Text.{Texted, characters_in}
 use Rattle.laws.specs.Lists.{All}

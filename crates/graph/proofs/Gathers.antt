@@ -17,7 +17,6 @@ use Rattle.chart.specs.declared.Answer.TheVariants.{Ready, Refused}
 use Rattle.chart.specs.declared.Setting.{Setting}
 use Rattle.chart.specs.declared.Setting.TheVariants.{Strict}
 use Rattle.chart.specs.Chart.{Part, Board, Reading, ready as accepted, refusal as refused, chart}
-use Rattle.chart.specs.Chart.{Node as GivenNode}
 use Rattle.chart.specs.Read.{numbers_of}
 use Rattle.chart.specs.Accepted.{Accepted}
 use Rattle.chart.proofs.Accepts.{accepted as accepts}

@@ -7,7 +7,7 @@ use Rattle.chart.specs.declared.Setting.{Setting}
 use Rattle.chart.specs.declared.Setting.TheVariants.{Strict}
 use Rattle.chart.specs.Chart.{Part, Board, ready as accepted, chart}
 use Rattle.laws.specs.Each.{each}
-use Rattle.graph.specs.Graph.{Line, given, number, invalid, Edge, Node, Graph, no_text, no_edge, given_graph, node_at, degree}
+use Rattle.graph.specs.Graph.{Line, number, invalid, Edge, Node, Graph, no_text, no_edge, given_graph, node_at, degree}
 use Rattle.graph.specs.Completion.{complete}
 use Rattle.graph.specs.Joining.{leads_of, uncut}
 use Rattle.graph.specs.Cutting.{unseen, mark_root, reached, start, beginning, cutting}

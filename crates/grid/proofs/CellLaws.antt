@@ -4,12 +4,10 @@ use Prim.Native.Nat.{ℕ, zero, suc, ◌≤◌, ◌<◌}
 use native.Mathlib.Omega.{arith}
 use mathlib.Core.Path.{◌≡◌, refl, ap, sym, ◌∙◌, subst}
 use mathlib.Core.Logic.{◌⊎◌, inl, inr, ⊎_elim}
-use mathlib.Core.Bool.{Bool, true, false, cond, ◌&&◌}
-use mathlib.Core.List.{List, [], ◌∷◌}
-use lib.Dec.{eqb, leb, ltb}
+use mathlib.Core.List.{List, []}
 use lib.ListN.{length, get_or, set, replicate, length-set, length-replicate, get_or-replicate}
 use lib.Seq.{get_or-set_same, get_or-set_other}
-use borrow.Author.Tests.{le-leb, lt-ltb, eqb-true, eqb-false}
+use borrow.Author.Tests.{le-leb, lt-ltb}
 use Rattle.laws.proofs.Tests.{same?}
 use Rattle.laws.specs.Each.{each}
 use Rattle.grid.specs.declared.BoxRecord.{BoxRecord}

@@ -11,7 +11,6 @@ use lib.ListN.{length, get_or, drop, replicate, length-map, length-drop}
 use lib.Seq.{get_or-drop}
 use Rattle.laws.specs.Lists.{one, keep, tabulate}
 use Rattle.laws.proofs.Lists.{get_d_tabulate, tabulate_list, map-tabulate}
-use Rattle.chart.specs.declared.Answer.TheVariants.{Ready}
 use Rattle.chart.specs.declared.Setting.{Setting}
 use Rattle.chart.specs.Chart.{Part, Board}
 use Rattle.graph.specs.Graph.{Line, given, invalid, Edge, Node, Graph, no_text, bare, given_node, given_graph, node_at}

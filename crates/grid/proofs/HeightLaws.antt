@@ -14,7 +14,7 @@ use Rattle.laws.specs.Each.{each}
 use Rattle.laws.specs.Lists.{All}
 use Rattle.grid.specs.Lists.{or_else, nothing}
 use Rattle.grid.specs.Columns.{at}
-use Rattle.grid.specs.Heights.{Rows, fresh, through, enter, walk_from, least_row, lower, lowered, reached_from, start, heights}
+use Rattle.grid.specs.Heights.{Rows, fresh, through, enter, walk_from, least_row, lowered, reached_from, start, heights}
 use Rattle.grid.specs.code.Walk.{unseen}
 use Rattle.grid.proofs.ListLaws.{at_map}
 use Rattle.laws.proofs.Each.{keeps}

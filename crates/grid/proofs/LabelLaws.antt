@@ -14,11 +14,10 @@ use Rattle.laws.proofs.Lists.{length-tabulate, get_d_tabulate, map-tabulate}
 use Rattle.chart.specs.code.Filled.{owned_lines, lines_of as texts_of'}
 use Rattle.graph.specs.declared.Tables.{Tables}
 use Rattle.graph.specs.Graph.{Line, given, number, invalid, Edge, Node, Graph, node_at}
-use Rattle.graph.specs.code.Tables.{owned, items_of, held_line, number_line, lines_at, graph_of}
-use Rattle.grid.specs.declared.LabelPlace.{LabelPlace}
+use Rattle.graph.specs.code.Tables.{owned, items_of, held_line, number_line, graph_of}
 use Rattle.grid.specs.declared.label.Seek.{Seek}
 use Rattle.grid.specs.declared.render_node.RenderNode.{RenderNode}
-use Rattle.grid.specs.RenderNode.{Text, end_texts, text_if, line_texts, end_width, text_length, line_length, drawn, texts_of, source_gap, sink_gap, first_x, input_y, output_y, center_y, inner_width, center_width}
+use Rattle.grid.specs.RenderNode.{Text, end_texts, text_if, line_texts, end_width, text_length, line_length, drawn, source_gap, sink_gap, first_x, input_y, output_y, center_y, inner_width, center_width}
 use Rattle.grid.specs.Record.{no_box}
 use Rattle.grid.specs.RenderGrid.{text_moved, box_of, sheet_of}
 use Rattle.grid.specs.Curves.{no_outputs, box_record, record_of}

@@ -1,22 +1,22 @@
 -- A node's numbers, from those of its ends and its lines.
 -- Assumes nothing.
-use Prim.Native.Nat.{ℕ, zero, suc, ◌+◌, ◌-◌, ◌*◌, ◌/◌, ◌≤◌, ◌<◌, max}
+use Prim.Native.Nat.{ℕ, suc, ◌+◌, ◌-◌, ◌*◌, ◌/◌, ◌≤◌, ◌<◌}
 use native.Mathlib.Omega.{arith}
 use native.Mathlib.Nat.{div-le_self}
-use mathlib.Core.Path.{◌≡◌, refl, ap, sym, ◌∙◌}
+use mathlib.Core.Path.{◌≡◌, refl, ap, ◌∙◌}
 use mathlib.Core.Bool.{Bool, true, false, cond}
-use mathlib.Core.List.{List, [], ◌∷◌, map}
+use mathlib.Core.List.{List, [], ◌∷◌}
 use lib.Dec.{eqb, ltb}
-use lib.ListN.{length, get_or}
-use borrow.Author.Tests.{eq-eqb, ne_eqb, le-ltb}
+use lib.ListN.{length}
+use borrow.Author.Tests.{ne_eqb, le-ltb}
 use Rattle.chart.specs.code.Filled.{lines_of as texts_of}
 use Rattle.laws.proofs.Lists.{get_d_tabulate, length-tabulate}
 use Rattle.graph.specs.declared.Tables.{Tables}
-use Rattle.graph.specs.Graph.{Edge, Line, number, Node, node_at}
+use Rattle.graph.specs.Graph.{Edge, Line, Node, node_at}
 use Rattle.graph.specs.code.Tables.{owned, items_of, lines_at, lines_of, graph_of, graph_from, node_of, held_line, number_line}
 use Rattle.laws.specs.Lists.{one}
 use Rattle.graph.proofs.Lists.{node-graph}
-use Rattle.grid.specs.RenderNode.{separation, first_x, lines_height, inner_width, ends_width, source_gap, sink_gap}
+use Rattle.grid.specs.RenderNode.{separation, first_x, lines_height}
 use Rattle.grid.specs.code.Rendered.{ends_of, center_of, gap_from, first_from, lines_from, text_from, empty_from, render_of, render_from}
 
 cond_le : (t : Bool) (a b m : ℕ) → a ≤ m → b ≤ m → cond t a b ≤ m

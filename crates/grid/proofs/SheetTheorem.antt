@@ -3,9 +3,9 @@
 use Prim.Native.Nat.{ℕ, ◌+◌, ◌*◌, ◌≤◌, ◌<◌}
 use mathlib.Core.Path.{◌≡◌}
 use mathlib.Core.Logic.{◌⊎◌}
-use mathlib.Core.List.{List, [], map}
+use mathlib.Core.List.{map}
 use lib.ListN.{length, get_or}
-use Rattle.graph.specs.Graph.{Line, Node, Graph, node_at}
+use Rattle.graph.specs.Graph.{Node, Graph, node_at}
 use Rattle.grid.specs.Lists.{largest, total}
 use Rattle.grid.specs.RenderNode.{text_length, line_length}
 use Rattle.grid.specs.RenderGrid.{Box, Sheet, box_at}

@@ -3,15 +3,15 @@
 use Prim.Native.Nat.{ℕ, ◌+◌, ◌-◌, ◌*◌, ◌≤◌, ◌<◌}
 use native.Mathlib.Omega.{arith}
 use mathlib.Core.Path.{◌≡◌, refl, ap, sym, subst, ◌∙◌}
-use mathlib.Core.Logic.{◌⊎◌, inl, inr, ⊎_elim}
+use mathlib.Core.Logic.{◌⊎◌}
 use mathlib.Core.Bool.{Bool, true, false, cond, ◌&&◌}
 use mathlib.Core.List.{List, [], ◌∷◌, ◌++◌, map}
 use lib.Dec.{ltb}
 use lib.ListN.{length, get_or, take, drop, replicate, length-append, get_or-map}
 use lib.Seq.{get_or-take, take_at}
 use borrow.Author.Tests.{ltb-true, ltb-false, le-leb}
-use Rattle.laws.specs.Lists.{All, padded}
-use Rattle.laws.proofs.Lists.{all_made, get_d_padded, take-padded}
+use Rattle.laws.specs.Lists.{All}
+use Rattle.laws.proofs.Lists.{all_made, get_d_padded}
 use Rattle.chart.specs.declared.Answer.{Answer}
 use Rattle.chart.specs.declared.Answer.TheVariants.{Ready, Refused}
 use Rattle.chart.specs.declared.Setting.{Setting}
@@ -21,7 +21,7 @@ use Rattle.graph.specs.Graph.{Edge, Graph, node_at}
 use Rattle.graph.specs.Shape.{Shape, targets, shape_of}
 use Rattle.graph.specs.declared.Ends.{Ends}
 use Rattle.graph.specs.Ends.{ends_in, shape_from, Linked}
-use Rattle.graph.specs.Graphed.{Dag, Graphed, ready as cut, refusal as refused, graphed, leads_read, leads_in}
+use Rattle.graph.specs.Graphed.{Dag, ready as cut, refusal as refused, graphed, leads_read, leads_in}
 use Rattle.graph.specs.Joining.{leads_of}
 use Rattle.graph.specs.code.Tables.{items_of, lines_of, graph_of}
 use Rattle.graph.specs.code.Graphs.{dag_in, Graphs}
@@ -48,7 +48,7 @@ use Rattle.grid.specs.declared.Outcome.{Outcome}
 use Rattle.grid.specs.RenderGrid.{Box, Sheet, owner_in, sheet_of, sheet}
 use Rattle.grid.specs.Record.{no_box, no_sheet}
 use Rattle.grid.specs.Curves.{no_outputs, box_record, record_of}
-use Rattle.grid.specs.Cells.{cell_at, cells_in, Named, Apart}
+use Rattle.grid.specs.Cells.{Apart}
 use Rattle.grid.proofs.SheetTheorem.{SheetTheorem, box as box_in}
 use Rattle.grid.specs.Sheeted.{ready, refusal, within, fitted, sheet_of_dag, sheeted, outcome_of}
 use Rattle.grid.specs.code.Laid.{fitted_of, arranged_of}

@@ -20,7 +20,7 @@ use Rattle.order.specs.Chains.{triples, chains, order, columns as first_columns}
 use Rattle.grid.specs.Heights.{heights}
 use Rattle.grid.specs.Columns.{first_moves, fold_from, average, columns}
 use Rattle.grid.specs.RenderNode.{drawn}
-use Rattle.grid.specs.RenderGrid.{Box, Sheet, sheet_of, sheet}
+use Rattle.grid.specs.RenderGrid.{Box, sheet_of, sheet}
 use Rattle.grid.specs.Sheeted.{Sheeted, ready, refusal, sheet_of_dag, sheeted}
 
 data Case : Type 0 where

@@ -1,6 +1,6 @@
 -- A sheet's record, as a caller holds it.
 -- Assumes nothing.
-use Rattle.std.specs.Prelude.{ℕ, ◌+◌, Bool, true, cond, ◌&&◌, List, leb, ltb, get_or, take, replicate}
+use Rattle.std.specs.Prelude.{ℕ, ◌+◌, Bool, cond, ◌&&◌, List, leb, ltb, get_or, take, replicate}
 use Rattle.laws.specs.Bytes.{all_of}
 use Rattle.chart.specs.declared.Answer.TheVariants.{Ready, Refused}
 use Rattle.grid.specs.declared.BoxRecord.{BoxRecord}

@@ -4,8 +4,8 @@ use Prim.Native.Nat.{ℕ, ◌+◌, ◌≤◌}
 use native.Mathlib.Omega.{arith}
 use mathlib.Core.Path.{◌≡◌, refl, sym, ap, ◌∙◌, subst}
 use mathlib.Core.Bool.{Bool, true, false, cond}
-use mathlib.Core.List.{List, ◌++◌}
-use lib.ListN.{length, take, drop}
+use mathlib.Core.List.{List}
+use lib.ListN.{length}
 use mir.Val.{bool_byte}
 use Rattle.chart.specs.declared.Answer.{Answer}
 use Rattle.chart.specs.declared.Answer.TheVariants.{Ready}
@@ -22,7 +22,7 @@ use Rattle.path.specs.declared.Written.TheVariants.{Done, Refused}
 use Rattle.path.specs.declared.LabelSpan.{LabelSpan}
 use Rattle.path.specs.Reader.{Answer as Path, read}
 use Rattle.path.specs.Answers.{sheet_answer, written_of}
-use Rattle.path.specs.Promises.{SheetText, IsSegment, IsWritten, IsRewritten}
+use Rattle.path.specs.Promises.{IsSegment, IsWritten, IsRewritten}
 use Rattle.path.specs.Label.{Place, chart, table, Within, label_answer_of, label_part_of, span_in, label_span_of, IsLabelSpan}
 use Rattle.path.proofs.TextSizes.{own-text-most}
 use Rattle.margalhosa.specs.declared.CountResult.{CountResult}

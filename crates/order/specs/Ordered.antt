@@ -3,7 +3,6 @@
 use Rattle.std.specs.Prelude.{ℕ, ◌≡◌, Bool, true, false, cond, ◌&&◌, List, leb, ltb, length, take, replicate}
 use Rattle.laws.specs.Bytes.{all_of}
 use Rattle.laws.specs.Lists.{padded}
-use Rattle.chart.specs.declared.Answer.{Answer}
 use Rattle.chart.specs.declared.Answer.TheVariants.{Ready, Refused}
 use Rattle.chart.specs.Read.{numbers, numbers_of}
 use Rattle.chart.specs.declared.Setting.{Setting}

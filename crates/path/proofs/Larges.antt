@@ -20,7 +20,7 @@ use Rattle.path.specs.Number.{limit, limit_halves, digits, number_text}
 use Rattle.path.specs.Text as text
 use Rattle.path.specs.Text.{letter_of, numbers_of, numbers_text, segment_text, rest_text, text_of, Small, Smalls}
 use Rattle.path.specs.Profile.{Large, lead_text, text_before, place_of}
-use Rattle.path.specs.Reader.{act, grown, marked, moved, Part, Reading, step, run_from, unread, run, drawn_all, ended, is_stopped, given, answer_of, Answer, segments, refused, read}
+use Rattle.path.specs.Reader.{act, grown, marked, moved, Part, Reading, step, run_from, unread, run, drawn_all, ended, is_stopped, given, answer_of, Answer, refused, read}
 use Rattle.path.proofs.Numbers.{digits-tens, text-whole, text-half}
 use Rattle.path.proofs.Words.{numbers-append}
 use Rattle.path.proofs.Backs.{rest-append}

@@ -21,13 +21,12 @@ use Rattle.path.specs.declared.Given.{Given}
 use Rattle.path.specs.declared.Given.TheVariants.{Drawn as Given-as-Drawn, Refused as Given-as-Refused}
 use Rattle.path.specs.declared.Written.{Written}
 use Rattle.path.specs.declared.Written.TheVariants.{Done, Refused}
-use Rattle.path.specs.Text.{numbers_of, text_of, Smalls, Led}
+use Rattle.path.specs.Text.{numbers_of, text_of, Led}
 use Rattle.path.specs.Drawn.{segment_of, Exactly, ExactAll}
 use Rattle.path.specs.Segments.{drawn_of}
-use Rattle.path.specs.Profile.{Large, place_of}
 use Rattle.path.specs.Reader.{Answer, segments, refused, run, drawn_all, ended, is_stopped, given, read}
 use Rattle.path.specs.Answers.{sheet_answer, count_of, given_of, written_of, left_of, given_numbers, count_numbers, written_numbers}
-use Rattle.path.specs.Promises.{Draws, SheetText, IsWritten, IsSegment, InProfile, Judged, accepted, stops, large, unled, IsReading, IsCount, IsRewritten}
+use Rattle.path.specs.Promises.{Draws, SheetText, IsWritten, IsSegment, Judged, accepted, stops, large, unled, IsReading, IsCount, IsRewritten}
 use Rattle.path.proofs.Derives.{derives, derives-back}
 use Rattle.path.proofs.Unique.{one-reading}
 use Rattle.path.proofs.Readings.{read-text}

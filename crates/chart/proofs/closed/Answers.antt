@@ -1,7 +1,6 @@
 -- `closed`: the test, and what the judging says.
 -- Assumes nothing.
 use borrow.Author.Tests.{lt-ltb, le-ltb}
-use borrow.Author.Rules.{rules}
 use Rattle.chart.proofs.closed.Goals as goal
 
 pub returns-then-nodes-len : goal.returns-then-nodes-len

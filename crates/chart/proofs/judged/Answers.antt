@@ -5,7 +5,6 @@ use Rattle.chart.specs.Chart.{targets_of, outside_in}
 use Rattle.chart.specs.code.Filled.{board_of}
 use Rattle.chart.specs.code.Reads.{judged_of}
 use Rattle.chart.proofs.Accepts.{answered-none, answered-some}
-use borrow.Author.Rules.{rules}
 use Rattle.chart.proofs.judged.Goals as goal
 
 pub returns-then-sources-gt64 : goal.returns-then-sources-gt64

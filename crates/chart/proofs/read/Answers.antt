@@ -7,7 +7,6 @@ use borrow.Author.Tests.{lt-ltb, le-ltb, le-leb, lt-leb, eq-eqb, ne_eqb}
 use Rattle.chart.specs.Chart.{bodies, chart}
 use Rattle.chart.proofs.Gives.{bodies_give}
 use Rattle.chart.proofs.Accepts.{is_read, read-refused, read-closed}
-use borrow.Author.Rules.{rules}
 use Rattle.chart.proofs.read.Goals as goal
 
 pub returns-then-chart-lt2 : goal.returns-then-chart-lt2

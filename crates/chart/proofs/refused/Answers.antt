@@ -1,7 +1,6 @@
 -- `refused`: the empty board.
 -- Assumes nothing.
 
-use borrow.Author.Rules.{rules}
 use Rattle.chart.proofs.refused.Goals as goal
 
 pub returns : goal.returns

@@ -2,7 +2,6 @@
 -- Assumes nothing.
 use borrow.Author.Tests.{eq-eqb, ne_eqb}
 use Rattle.chart.specs.code.Filled.{tables_of}
-use borrow.Author.Rules.{rules}
 use Rattle.chart.proofs.under_two.Goals as goal
 
 pub returns-then-len-ne0 : goal.returns-then-len-ne0

@@ -1,9 +1,8 @@
 -- What the code's readers answer: the definition's reading, as a struct. `refused` is the number of the refusal, 0 for none; a refused
 -- answer's other fields are 0 and its tables empty.
 -- Assumes nothing.
-use Rattle.std.specs.Prelude.{ℕ, zero, suc, ◌+◌, ◌*◌, cond, List, [], ◌∷◌, eqb, ltb, length, get_or}
+use Rattle.std.specs.Prelude.{ℕ, ◌+◌, cond, List, eqb, ltb}
 use Rattle.std.proofs.Math.Option.{Option, none, some}
-use Rattle.chart.specs.declared.Item.{Item}
 use Rattle.chart.specs.declared.Table.{Table}
 use Rattle.chart.specs.declared.Lines.{Lines}
 use Rattle.chart.specs.declared.Board.{Board as Tables}
@@ -17,7 +16,7 @@ use Rattle.chart.specs.declared.reader.Texts.{Texts}
 use Rattle.chart.specs.declared.reader.Nodes.{Nodes}
 use Rattle.chart.specs.declared.judge.Outside.{Outside}
 use Rattle.chart.specs.declared.judge.Outside.TheVariants.{Nothing, Target}
-use Rattle.chart.specs.Chart.{Part, End, Node, Counts, Board, number_of, not_text, Got, got, refused, ◌then◌, byte, many, is_text, byte_c2, byte_b0, characters, text, end, body, bodies}
+use Rattle.chart.specs.Chart.{Part, End, Node, Counts, Board, number_of, not_text, Got, got, refused, ◌then◌, byte, many, is_text, byte_c2, byte_b0, characters, text, end}
 use Rattle.chart.specs.code.Filled.{empty_table, empty_lines, empty_board, push_all, push_lines, with_node, with_nodes}
 
 -- the next character of a text of which so many bytes are left: a text byte or a degree sign, and how many bytes it has

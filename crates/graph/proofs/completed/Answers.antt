@@ -1,7 +1,6 @@
 -- `completed`: the stage that is asked, by the law of `Stages`.
 -- Assumes nothing.
 use Rattle.graph.proofs.Stages.{completed-staged}
-use borrow.Author.Rules.{rules}
 use Rattle.graph.proofs.completed.Goals as goal
 
 pub returns : goal.returns

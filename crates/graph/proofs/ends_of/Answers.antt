@@ -1,10 +1,10 @@
 -- `ends_of`: the first k owners and targets are those of the first k records.
 -- Assumes nothing.
-use Prim.Native.Nat.{◌-◌, ◌≤◌, ◌<◌}
+use Prim.Native.Nat.{◌<◌}
 use native.Mathlib.Omega.{arith}
 use mathlib.Core.Path.{◌≡◌, refl, ◌∙◌}
 use mathlib.Core.List.{map}
-use lib.ListN.{length, take, length-set}
+use lib.ListN.{length, length-set}
 use Rattle.laws.proofs.Lists.{mapped_long}
 use Rattle.graph.specs.declared.Item.{Item}
 use Rattle.graph.specs.Outcome.{no_item}

@@ -1,14 +1,10 @@
 -- `ends_of`: the first k owners and targets are those of the first k records.
 -- Assumes nothing.
-use Prim.Native.Nat.{◌-◌, ◌≤◌, ◌<◌}
-use native.Mathlib.Omega.{arith}
-use mathlib.Core.Path.{◌≡◌, refl, ◌∙◌}
+use Prim.Native.Nat.{◌-◌, ◌≤◌}
+use mathlib.Core.Path.{◌≡◌}
 use mathlib.Core.List.{map}
-use lib.ListN.{length, take, length-set}
-use Rattle.laws.proofs.Lists.{mapped_long}
+use lib.ListN.{length, take}
 use Rattle.graph.specs.declared.Item.{Item}
-use Rattle.graph.specs.Outcome.{no_item}
-use Rattle.graph.proofs.Lists.{stored_more, stored-all}
 use Rattle.graph.proofs.ends_of.Given as goal
 
 abbrev pub invariant-loop-k : goal.invariant-loop-k

@@ -2,7 +2,6 @@
 -- Assumes nothing.
 use native.Mathlib.Omega.{arith}
 use Rattle.graph.proofs.Stages.{graph-staged}
-use borrow.Author.Rules.{rules}
 use Rattle.graph.proofs.graph.Goals as goal
 
 pub returns : goal.returns

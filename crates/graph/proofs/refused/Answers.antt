@@ -1,7 +1,6 @@
 -- `refused`: the empty tables beside the answer.
 -- Assumes nothing.
 use Rattle.graph.proofs.Begins.{none_answers}
-use borrow.Author.Rules.{rules}
 use Rattle.graph.proofs.refused.Goals as goal
 
 pub returns : goal.returns

@@ -1,7 +1,6 @@
 -- `staged`: the chart crate's promise and that of `drawn`, by the laws of `Begins`.
 -- Assumes nothing.
 use Rattle.graph.proofs.Begins.{read_held, stage-read, stage_not}
-use borrow.Author.Rules.{rules}
 use Rattle.graph.proofs.staged.Goals as goal
 
 pub drawn-requires : goal.drawn-requires

@@ -1,7 +1,6 @@
 -- `first_in`: the promises of `ends_of` and `order_of`.
 -- Assumes nothing.
 
-use borrow.Author.Rules.{rules}
 use Rattle.grid.proofs.first_in.Goals as goal
 
 pub returns : goal.returns

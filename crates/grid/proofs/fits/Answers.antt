@@ -1,7 +1,6 @@
 -- `fits`: the tests.
 -- Assumes nothing.
 use mathlib.Core.Path.{sym, ◌∙◌}
-use borrow.Author.Rules.{rules}
 use Rattle.grid.proofs.fits.Goals as goal
 
 pub returns-then-within : goal.returns-then-within

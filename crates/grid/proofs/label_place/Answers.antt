@@ -6,7 +6,6 @@ use mathlib.Core.Path.{◌∙◌}
 use Rattle.grid.proofs.Sheets.{Made, seated, firsts-are, sheet-is}
 use Rattle.grid.proofs.LabelPlaces.{sitting, sited, place-past, place_found, place_none, place-refused}
 use Rattle.graph.proofs.Tabled.{graphs-of}
-use borrow.Author.Rules.{rules}
 use Rattle.grid.proofs.label_place.Goals as goal
 use Rattle.grid.proofs.label_place.Goals.{After-sheet_of-laid, Else-k-g}
 

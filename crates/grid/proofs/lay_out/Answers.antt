@@ -66,8 +66,8 @@ laid-requires c =
       seated = c.requires.seated;
       bounded = rows_bounded t (sources-long z) (sinks-long z) c.requires.seated _ _ d e h.result r;
       bounded_2 =
-        cols_bounded t (sources-long z) (sinks-long z) c.requires.seated _ _ d e h.result r c.args.first c.requires.first_columns k.new.cols
-        (cols t.n _ _ s h.result c.args.first k.new.cols k.ensures);
+          cols_bounded t (sources-long z) (sinks-long z) c.requires.seated _ _ d e h.result r c.args.first c.requires.first_columns k.new.cols
+          (cols t.n _ _ s h.result c.args.first k.new.cols k.ensures);
     }
 
 pub returns : goal.returns

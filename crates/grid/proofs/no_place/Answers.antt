@@ -3,7 +3,6 @@
 use mathlib.Core.Path.{ap}
 use Rattle.chart.specs.declared.Answer.TheVariants.{Refused}
 use Rattle.grid.specs.declared.label.Seek.{Seek}
-use borrow.Author.Rules.{rules}
 use Rattle.grid.proofs.no_place.Goals as goal
 
 pub returns : goal.returns

@@ -1,7 +1,6 @@
 -- `refused`: the empty sheet.
 -- Assumes nothing.
 
-use borrow.Author.Rules.{rules}
 use Rattle.grid.proofs.refused.Goals as goal
 
 pub returns : goal.returns

@@ -3,7 +3,6 @@
 use Rattle.grid.proofs.Sheets.{seated, firsts-are, sheet-is}
 use Rattle.grid.proofs.GivenLaws.{is-sheet}
 use Rattle.graph.proofs.Tabled.{graphs-of}
-use borrow.Author.Rules.{rules}
 use Rattle.grid.proofs.sheet.Goals as goal
 
 pub sheet_of-requires : goal.sheet_of-requires

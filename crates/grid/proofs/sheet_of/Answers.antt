@@ -2,7 +2,6 @@
 -- Assumes nothing.
 use mathlib.Core.Path.{sym, ◌∙◌}
 use Rattle.grid.proofs.Sheets.{arranged_fits, arranged_past}
-use borrow.Author.Rules.{rules}
 use Rattle.grid.proofs.sheet_of.Goals as goal
 
 pub returns-then-fits : goal.returns-then-fits

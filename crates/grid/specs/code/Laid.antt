@@ -22,7 +22,7 @@ use Rattle.graph.specs.declared.Tables.{Tables}
 use Rattle.graph.specs.declared.Outcome.{Outcome as Graphing}
 use Rattle.grid.specs.declared.SheetRecord.{SheetRecord}
 use Rattle.grid.specs.declared.Outcome.{Outcome}
-use Rattle.grid.specs.Sheeted.{within, drawn}
+use Rattle.grid.specs.Sheeted.{within}
 
 -- the first n are at most b
 pub record Bounded (b : ℕ) (xs : List ℕ) (n : ℕ) : Type 0 where

@@ -1,6 +1,5 @@
 -- `counted`: the two cases. Assumes nothing.
 
-use borrow.Author.Rules.{rules}
 use Rattle.margalhosa.proofs.counted.Goals as goal
 
 pub returns-in-Segments : goal.returns-in-Segments

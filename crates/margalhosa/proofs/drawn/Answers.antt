@@ -1,6 +1,5 @@
 -- `drawn`: the four kinds of segment. Assumes nothing.
 
-use borrow.Author.Rules.{rules}
 use Rattle.margalhosa.proofs.drawn.Goals as goal
 
 pub returns-in-Move : goal.returns-in-Move

@@ -1,6 +1,5 @@
 -- `given`: the two cases. Assumes nothing.
 
-use borrow.Author.Rules.{rules}
 use Rattle.margalhosa.proofs.given.Goals as goal
 
 pub returns-in-Drawn : goal.returns-in-Drawn

@@ -1,6 +1,5 @@
 -- `margalhosa_box`: the answer of `grid::box_of`. Assumes nothing.
 
-use borrow.Author.Rules.{rules}
 use Rattle.margalhosa.proofs.margalhosa_box.Goals as goal
 
 pub returns : goal.returns

@@ -3,7 +3,6 @@ use Rattle.grid.specs.Labelled.{labelled}
 use Rattle.path.specs.Label.{IsLabelSpan}
 use Rattle.margalhosa.specs.Results.{setting_of}
 use Rattle.margalhosa.proofs.Results.{as_number, part-is}
-use borrow.Author.Rules.{rules}
 use Rattle.margalhosa.proofs.margalhosa_label_part.Goals as goal
 
 pub returns : goal.returns

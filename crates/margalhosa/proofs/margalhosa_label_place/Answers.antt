@@ -1,6 +1,5 @@
 -- `margalhosa_label_place`: the answer of `path::label_place`. Assumes nothing.
 
-use borrow.Author.Rules.{rules}
 use Rattle.margalhosa.proofs.margalhosa_label_place.Goals as goal
 
 pub returns : goal.returns

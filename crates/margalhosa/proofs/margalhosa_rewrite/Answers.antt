@@ -1,6 +1,5 @@
 -- `margalhosa_rewrite`: the answer of `path::rewrite`, and the buffer that it leaves. Assumes nothing.
 use Rattle.margalhosa.proofs.Results.{rewrite_is}
-use borrow.Author.Rules.{rules}
 use Rattle.margalhosa.proofs.margalhosa_rewrite.Goals as goal
 
 pub returns : goal.returns

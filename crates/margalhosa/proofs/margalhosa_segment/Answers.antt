@@ -1,6 +1,5 @@
 -- `margalhosa_segment`: the answer of `path::sheet_segment`. Assumes nothing.
 use Rattle.margalhosa.proofs.Results.{segment-is}
-use borrow.Author.Rules.{rules}
 use Rattle.margalhosa.proofs.margalhosa_segment.Goals as goal
 
 pub returns : goal.returns

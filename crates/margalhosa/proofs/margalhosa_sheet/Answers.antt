@@ -2,7 +2,6 @@
 use Rattle.grid.specs.LaidOut.{IsSheet}
 use Rattle.margalhosa.specs.Results.{setting_of}
 use Rattle.margalhosa.proofs.Results.{sheet-is}
-use borrow.Author.Rules.{rules}
 use Rattle.margalhosa.proofs.margalhosa_sheet.Goals as goal
 
 pub returns : goal.returns

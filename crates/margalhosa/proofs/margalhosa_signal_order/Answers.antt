@@ -3,7 +3,6 @@
 use mathlib.Core.Path.{ap, subst}
 use Rattle.signal.specs.Laws.{IsSignalOrder}
 use Rattle.margalhosa.specs.Results.{order_result}
-use borrow.Author.Rules.{rules}
 use Rattle.margalhosa.proofs.margalhosa_signal_order.Goals as goal
 
 pub returns : goal.returns

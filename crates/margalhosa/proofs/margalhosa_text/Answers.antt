@@ -1,6 +1,5 @@
 -- `margalhosa_text`: the answer of `path::write_sheet`, and the buffer that it leaves. Assumes nothing.
 use Rattle.margalhosa.proofs.Results.{text-is}
-use borrow.Author.Rules.{rules}
 use Rattle.margalhosa.proofs.margalhosa_text.Goals as goal
 
 pub returns : goal.returns

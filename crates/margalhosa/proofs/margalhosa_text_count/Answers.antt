@@ -1,7 +1,6 @@
 -- `margalhosa_text_count`: the answer of `path::text_count`. Assumes nothing.
 use mathlib.Core.Path.{ap, ◌∙◌}
 use Rattle.margalhosa.specs.Results.{count_result}
-use borrow.Author.Rules.{rules}
 use Rattle.margalhosa.proofs.margalhosa_text_count.Goals as goal
 
 pub returns : goal.returns

@@ -1,6 +1,5 @@
 -- `margalhosa_text_segment`: the answer of `path::text_segment`. Assumes nothing.
 use Rattle.margalhosa.proofs.Results.{segment-is}
-use borrow.Author.Rules.{rules}
 use Rattle.margalhosa.proofs.margalhosa_text_segment.Goals as goal
 
 pub returns : goal.returns

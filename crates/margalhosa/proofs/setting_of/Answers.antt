@@ -1,6 +1,5 @@
 -- `setting_of`: each way out rewrites with what led there. Assumes nothing.
 use borrow.Author.Tests.{eq-eqb, ne_eqb}
-use borrow.Author.Rules.{rules}
 use Rattle.margalhosa.proofs.setting_of.Goals as goal
 
 pub returns-then-number-eq0 : goal.returns-then-number-eq0

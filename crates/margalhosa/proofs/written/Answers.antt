@@ -1,6 +1,5 @@
 -- `written`: the two cases. Assumes nothing.
 
-use borrow.Author.Rules.{rules}
 use Rattle.margalhosa.proofs.written.Goals as goal
 
 pub returns-in-Done : goal.returns-in-Done

@@ -2,7 +2,6 @@
 -- Assumes nothing.
 use Rattle.order.proofs.Graphs.{order-ready, order-refused}
 use Rattle.graph.proofs.Tabled.{graphs-of}
-use borrow.Author.Rules.{rules}
 use Rattle.order.proofs.order.Goals as goal
 
 pub drawn-requires : goal.drawn-requires

@@ -3,7 +3,6 @@
 use mathlib.Core.Path.{◌∙◌, sym}
 use Rattle.grid.specs.Labelled.{labelled}
 use Rattle.path.proofs.LabelCalls.{tabled-found, tabled-none, tabled-refused}
-use borrow.Author.Rules.{rules}
 use Rattle.path.proofs.find_label.Goals as goal
 
 pub returns-then-is_stand_ins : goal.returns-then-is_stand_ins

@@ -11,7 +11,6 @@ use Rattle.graph.proofs.Gathers.{Bytes}
 use Rattle.grid.specs.Labelled.{labelled}
 use Rattle.path.specs.Label.{Place, IsAt, tabled}
 use Rattle.path.proofs.LabelCalls.{number_small, fixed_part, given-part, refused-part, is_label_part}
-use borrow.Author.Rules.{rules}
 use Rattle.path.proofs.label_part.Goals as goal
 
 -- the chart is made of bytes

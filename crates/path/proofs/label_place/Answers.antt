@@ -3,7 +3,6 @@
 use Rattle.grid.specs.Labelled.{labelled}
 use Rattle.path.specs.Label.{tabled}
 use Rattle.path.proofs.LabelCalls.{answer-is}
-use borrow.Author.Rules.{rules}
 use Rattle.path.proofs.label_place.Goals as goal
 
 pub returns : goal.returns

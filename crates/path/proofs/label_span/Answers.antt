@@ -7,7 +7,6 @@ use mir.Val.{Fits}
 use native.Mathlib.Omega.{arith}
 use mathlib.Core.List.{List}
 use Rattle.graph.proofs.Gathers.{Bytes}
-use Rattle.grid.specs.declared.LabelPlace.{LabelPlace}
 use Rattle.grid.specs.Labelled.{labelled}
 use Rattle.path.specs.Label.{tabled}
 use Rattle.path.proofs.LabelCalls.{number_small, span_fits, fixed_span, given-span, refused-span, is_label_span}

@@ -2,7 +2,6 @@
 use Rattle.path.proofs.Texts.{again-short, again-done, again-refused}
 use native.Mathlib.Omega.{arith}
 use Rattle.path.proofs.Promises.{is-rewritten}
-use borrow.Author.Rules.{rules}
 use Rattle.path.proofs.rewrite.Goals as goal
 
 -- the two clauses of the contract

@@ -1,10 +1,8 @@
 -- `sheet_segment` meets its contract: by the tests (`Drawings`). Assumes nothing.
 use mathlib.Core.Path.{sym, ◌∙◌}
 use native.Mathlib.Omega.{arith}
-use borrow.Author.Tests.{not-true, not-false}
 use Rattle.path.proofs.Drawings.{given_unsound, given-there, given-past}
 use Rattle.path.proofs.Promises.{is-sheet-segment}
-use borrow.Author.Rules.{rules}
 use Rattle.path.proofs.sheet_segment.Goals as goal
 
 pub returns-then-not-sound : goal.returns-then-not-sound

@@ -1,9 +1,9 @@
 -- `stand_ins` meets its contract: after j turns the first j texts are put. Assumes nothing.
-use Prim.Native.Nat.{ℕ, ◌-◌, ◌≤◌}
+use Prim.Native.Nat.{ℕ}
 use native.Mathlib.Omega.{arith}
 use mathlib.Core.Path.{◌≡◌, refl, ap, ◌∙◌}
 use mathlib.Core.List.{List}
-use lib.ListN.{length, replicate}
+use lib.ListN.{length}
 use Rattle.path.specs.Writer.{put}
 use Rattle.path.specs.Label.{stand_in, stand_ins_from, stand_ins_to, stand_ins}
 use Rattle.path.proofs.Labels.{text-put, table-put}

@@ -1,12 +1,10 @@
 -- `stand_ins` meets its contract: after j turns the first j texts are put. Assumes nothing.
 use Prim.Native.Nat.{ℕ, ◌-◌, ◌≤◌}
-use native.Mathlib.Omega.{arith}
-use mathlib.Core.Path.{◌≡◌, refl, ap, ◌∙◌}
+use mathlib.Core.Path.{◌≡◌}
 use mathlib.Core.List.{List}
-use lib.ListN.{length, replicate}
+use lib.ListN.{replicate}
 use Rattle.path.specs.Writer.{put}
-use Rattle.path.specs.Label.{stand_in, stand_ins_from, stand_ins_to, stand_ins}
-use Rattle.path.proofs.Labels.{text-put, table-put}
+use Rattle.path.specs.Label.{stand_ins_to}
 use Rattle.path.proofs.stand_ins.Given as goal
 
 abbrev pub zeros : List ℕ

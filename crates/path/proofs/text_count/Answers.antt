@@ -1,7 +1,6 @@
 -- `text_count` meets its contract: by the verdict (`Texts`). Assumes nothing.
 use Rattle.path.proofs.Texts.{count-fine, count-refused}
 use Rattle.path.proofs.Promises.{is-count}
-use borrow.Author.Rules.{rules}
 use Rattle.path.proofs.text_count.Goals as goal
 
 -- the two clauses of the contract

@@ -2,7 +2,6 @@
 use Rattle.path.proofs.Texts.{given-some, given-none, given_range, given-refused}
 use native.Mathlib.Omega.{arith}
 use Rattle.path.proofs.Promises.{is-text-segment}
-use borrow.Author.Rules.{rules}
 use Rattle.path.proofs.text_segment.Goals as goal
 
 -- the two clauses of the contract

@@ -1,10 +1,8 @@
 -- `write_sheet` meets its contract: by the tests (`Drawings`). Assumes nothing.
 use mathlib.Core.Path.{sym, ◌∙◌}
 use native.Mathlib.Omega.{arith}
-use borrow.Author.Tests.{not-true, not-false}
 use Rattle.path.proofs.Drawings.{written_unsound, written-short, written-done}
 use Rattle.path.proofs.Promises.{is-written}
-use borrow.Author.Rules.{rules}
 use Rattle.path.proofs.write_sheet.Goals as goal
 
 pub returns-then-not-sound : goal.returns-then-not-sound

@@ -3,7 +3,6 @@
 use Rattle.graph.proofs.Tabled.{completed-answers, completed-few}
 use Rattle.signal.proofs.SignalLaws.{is-signal-order}
 use Rattle.signal.proofs.Graphs.{signal-ready, signal-refused}
-use borrow.Author.Rules.{rules}
 use Rattle.signal.proofs.signal_order.Goals as goal
 
 pub ordered_of-requires : goal.ordered_of-requires

@@ -1,6 +1,5 @@
 -- `judge::first_outside`: what is left to look at gives the answer.
 -- Assumes nothing.
-use Prim.Native.Nat.{◌+◌}
 use mathlib.Core.Path.{◌≡◌, refl, sym, ◌∙◌, ap}
 use mathlib.Core.List.{[]}
 use native.Mathlib.Omega.{arith}

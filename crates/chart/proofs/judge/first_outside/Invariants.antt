@@ -1,11 +1,10 @@
 -- `judge::first_outside`: what is left to look at gives the answer.
 -- Assumes nothing.
 use Prim.Native.Nat.{◌+◌}
-use mathlib.Core.Path.{◌≡◌, refl, sym, ◌∙◌, ap}
+use mathlib.Core.Path.{◌≡◌}
 use mathlib.Core.List.{[]}
-use native.Mathlib.Omega.{arith}
-use Rattle.chart.specs.code.Filled.{items_of, lines_of}
-use Rattle.chart.proofs.Targets.{searched, searched-on, searched-found, searched-all}
+use Rattle.chart.specs.code.Filled.{items_of}
+use Rattle.chart.proofs.Targets.{searched}
 use Rattle.chart.proofs.judge.first_outside.Given as goal
 
 abbrev pub invariant-loop-left : goal.invariant-loop-left

@@ -4,7 +4,6 @@ use mathlib.Core.Path.{sym, ◌∙◌}
 use Rattle.chart.specs.Chart.{targets}
 use Rattle.chart.specs.code.Filled.{owned, items_of}
 use Rattle.chart.proofs.Targets.{append-none, append-some}
-use borrow.Author.Rules.{rules}
 use Rattle.chart.proofs.judge.outside_at.Goals as goal
 
 pub returns-in-Nothing : goal.returns-in-Nothing

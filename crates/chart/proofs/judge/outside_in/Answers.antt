@@ -1,7 +1,6 @@
 -- `outside_in`: the setting's two cases.
 -- Assumes nothing.
 
-use borrow.Author.Rules.{rules}
 use Rattle.chart.proofs.judge.outside_in.Goals as goal
 
 pub returns-in-Strict : goal.returns-in-Strict

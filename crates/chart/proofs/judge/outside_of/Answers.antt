@@ -1,10 +1,9 @@
 -- `judge::outside_of`: what is left to look at gives the answer.
 -- Assumes nothing.
-use Prim.Native.Nat.{◌-◌}
 use mathlib.Core.Path.{◌≡◌, refl, sym, ◌∙◌}
 use lib.ListN.{length}
 use Rattle.laws.proofs.Lists.{mapped_long}
-use Rattle.chart.proofs.Targets.{looked, looked-end, looked-other, looked-below, looked-found}
+use Rattle.chart.proofs.Targets.{looked-end, looked-other, looked-below, looked-found}
 use borrow.Author.Rules.{rules}
 use Rattle.chart.proofs.judge.outside_of.Goals as goal
 use Rattle.chart.proofs.judge.outside_of.Goals.{Start}

@@ -1,10 +1,8 @@
 -- `judge::outside_of`: what is left to look at gives the answer.
 -- Assumes nothing.
 use Prim.Native.Nat.{◌-◌}
-use mathlib.Core.Path.{◌≡◌, refl, sym, ◌∙◌}
-use lib.ListN.{length}
-use Rattle.laws.proofs.Lists.{mapped_long}
-use Rattle.chart.proofs.Targets.{looked, looked-end, looked-other, looked-below, looked-found}
+use mathlib.Core.Path.{◌≡◌}
+use Rattle.chart.proofs.Targets.{looked}
 use Rattle.chart.proofs.judge.outside_of.Given as goal
 
 abbrev pub invariant-loop-k : goal.invariant-loop-k

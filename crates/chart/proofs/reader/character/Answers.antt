@@ -3,7 +3,6 @@
 use mathlib.Core.Path.{sym, ap, ◌∙◌}
 use Rattle.chart.specs.code.Steps.{step_of}
 use Rattle.chart.proofs.Readers.{step_cut, step-low, step-text, step-high, step-last, step_gone, step-alone, step-sign}
-use borrow.Author.Rules.{rules}
 use Rattle.chart.proofs.reader.character.Goals as goal
 
 pub returns-then-at-chart : goal.returns-then-at-chart

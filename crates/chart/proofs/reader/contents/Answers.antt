@@ -2,7 +2,6 @@
 -- Assumes nothing.
 use Prim.Native.Nat.{◌+◌, ◌*◌}
 use native.Mathlib.Omega.{arith}
-use borrow.Author.Rules.{rules}
 use Rattle.chart.proofs.reader.contents.Goals as goal
 
 pub overflow_cast-low : goal.overflow_cast-low

@@ -1,7 +1,6 @@
 -- `reader::no_ends`: the empty table.
 -- Assumes nothing.
 
-use borrow.Author.Rules.{rules}
 use Rattle.chart.proofs.reader.no_ends.Goals as goal
 
 pub returns : goal.returns

@@ -1,7 +1,6 @@
 -- `reader::no_node`: the empty tables.
 -- Assumes nothing.
 
-use borrow.Author.Rules.{rules}
 use Rattle.chart.proofs.reader.no_node.Goals as goal
 
 pub returns : goal.returns

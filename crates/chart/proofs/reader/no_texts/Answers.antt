@@ -1,7 +1,6 @@
 -- `reader::no_texts`: the empty table.
 -- Assumes nothing.
 
-use borrow.Author.Rules.{rules}
 use Rattle.chart.proofs.reader.no_texts.Goals as goal
 
 pub returns : goal.returns

@@ -1,8 +1,7 @@
 -- `reader::read_bodies`: what is left to read, put into the tables so far, gives the whole answer.
 -- Assumes nothing.
-use Prim.Native.Nat.{ℕ, ◌+◌, ◌*◌, ◌<◌}
+use Prim.Native.Nat.{ℕ, ◌+◌, ◌<◌}
 use mathlib.Core.Path.{◌≡◌, refl, sym, ◌∙◌, ap}
-use mathlib.Core.List.{List}
 use native.Mathlib.Omega.{arith}
 use Rattle.chart.specs.declared.Board.{Board as Tables}
 use Rattle.chart.specs.declared.Table.{Table}

@@ -1,14 +1,10 @@
 -- `reader::read_bodies`: what is left to read, put into the tables so far, gives the whole answer.
 -- Assumes nothing.
-use Prim.Native.Nat.{ℕ, ◌+◌, ◌*◌, ◌<◌}
-use mathlib.Core.Path.{◌≡◌, refl, sym, ◌∙◌, ap}
-use mathlib.Core.List.{List}
-use native.Mathlib.Omega.{arith}
-use Rattle.chart.specs.declared.Board.{Board as Tables}
-use Rattle.chart.specs.Chart.{many, text, end, items, body, entry, bodies}
+use Prim.Native.Nat.{◌+◌, ◌*◌}
+use mathlib.Core.Path.{◌≡◌}
+use Rattle.chart.specs.Chart.{bodies}
 use Rattle.chart.specs.code.Filled.{empty_board}
-use Rattle.chart.specs.code.Steps.{items_read, node_of, nodes_of}
-use Rattle.chart.proofs.Readers.{EndsGot, TextsGot, ends-stopped, ends-got, texts-stopped, texts-got, items-stopped, items-stopped_2, items-stopped_3, items-got, body-stopped, body-counted, bodies-misplaced, bodies-refused, bodies-on}
+use Rattle.chart.specs.code.Steps.{nodes_of}
 use Rattle.chart.proofs.reader.read_bodies.Given as goal
 
 abbrev pub invariant-loop-left : goal.invariant-loop-left

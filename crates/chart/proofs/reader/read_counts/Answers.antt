@@ -1,7 +1,6 @@
 -- `reader::read_counts`: the tests.
 -- Assumes nothing.
 use borrow.Author.Tests.{lt-ltb, le-ltb, le-leb, lt-leb}
-use borrow.Author.Rules.{rules}
 use Rattle.chart.proofs.reader.read_counts.Goals as goal
 
 pub returns-then-at-chart : goal.returns-then-at-chart

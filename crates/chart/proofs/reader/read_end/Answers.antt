@@ -5,7 +5,6 @@ use lib.ListN.{get_or}
 use borrow.Author.Tests.{lt-ltb, le-ltb}
 use Rattle.chart.specs.Chart.{text}
 use Rattle.chart.proofs.Readers.{end_refused, end_read}
-use borrow.Author.Rules.{rules}
 use Rattle.chart.proofs.reader.read_end.Goals as goal
 
 pub returns-then-at-chart : goal.returns-then-at-chart

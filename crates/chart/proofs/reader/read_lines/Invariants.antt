@@ -1,11 +1,7 @@
 -- `reader::read_lines`: what is left to read, put into the table so far, gives the whole answer.
 -- Assumes nothing.
-use Prim.Native.Nat.{ℕ}
-use mathlib.Core.Path.{◌≡◌, refl, sym, ◌∙◌, ap}
-use native.Mathlib.Omega.{arith}
+use mathlib.Core.Path.{◌≡◌}
 use Rattle.chart.specs.code.Steps.{reads-texts}
-use Rattle.chart.proofs.Readers.{lines-refused, lines-on}
-use borrow.Author.Tests.{lt-ltb, le-ltb}
 use Rattle.chart.proofs.reader.read_lines.Given as goal
 
 abbrev pub invariant-loop-left : goal.invariant-loop-left

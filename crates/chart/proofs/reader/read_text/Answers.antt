@@ -6,7 +6,6 @@ use lib.ListN.{get_or}
 use Rattle.chart.specs.Chart.{characters}
 use Rattle.chart.specs.code.Steps.{span_of}
 use Rattle.chart.proofs.Readers.{text-cut, text-long, text-from, span-refused, span-read}
-use borrow.Author.Rules.{rules}
 use Rattle.chart.proofs.reader.read_text.Goals as goal
 
 pub returns-then-at-chart : goal.returns-then-at-chart

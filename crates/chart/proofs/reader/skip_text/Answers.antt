@@ -1,12 +1,9 @@
 -- `reader::skip_text`: what is left to skip, with the characters before it, gives the whole answer.
 -- Assumes nothing.
-use Prim.Native.Nat.{ℕ, ◌+◌, ◌-◌, ◌≤◌}
+use Prim.Native.Nat.{◌+◌, ◌-◌}
 use mathlib.Core.Path.{◌≡◌, sym, ◌∙◌}
-use mathlib.Core.List.{List}
 use native.Mathlib.Omega.{arith}
-use Rattle.chart.specs.declared.reader.Step.{Step}
-use Rattle.chart.specs.Chart.{characters}
-use Rattle.chart.specs.code.Steps.{skip_of, skips}
+use Rattle.chart.specs.code.Steps.{skips}
 use Rattle.chart.proofs.Readers.{Sized, skip-refused, skip-on, skip_sized, skip_all, skip-end}
 use borrow.Author.Rules.{rules}
 use Rattle.chart.proofs.reader.skip_text.Goals as goal

@@ -1,7 +1,6 @@
 -- `tables::no_nodes`: three empty tables.
 -- Assumes nothing.
 
-use borrow.Author.Rules.{rules}
 use Rattle.chart.proofs.tables.no_nodes.Goals as goal
 
 pub returns : goal.returns

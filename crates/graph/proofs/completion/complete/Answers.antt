@@ -1,11 +1,10 @@
 -- `completion::complete`: each node keeps what is left to do, by the laws of `Rounds`.
 -- Assumes nothing.
-use Prim.Native.Nat.{◌-◌}
 use mathlib.Core.Path.{◌≡◌}
 use native.Mathlib.Omega.{arith}
 use lib.ListN.{length}
 use Rattle.laws.proofs.Lists.{mapped_long}
-use Rattle.graph.proofs.Rounds.{Doing, doing_first, doing_last, doing_room, doing_in, doing_next}
+use Rattle.graph.proofs.Rounds.{doing_first, doing_last, doing_room, doing_in, doing_next}
 use borrow.Author.Rules.{rules}
 use Rattle.graph.proofs.completion.complete.Goals as goal
 use Rattle.graph.proofs.completion.complete.Goals.{Start}

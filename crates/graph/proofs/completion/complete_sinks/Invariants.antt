@@ -1,11 +1,7 @@
 -- `completion::complete_sinks`: each turn keeps what is left to do, by the laws of `Gains`.
 -- Assumes nothing.
 use Prim.Native.Nat.{◌-◌}
-use mathlib.Core.Path.{◌≡◌, refl}
-use native.Mathlib.Omega.{arith}
-use lib.ListN.{length}
-use Rattle.laws.proofs.Lists.{mapped_long}
-use Rattle.graph.proofs.Lefts.{Left, left_end, left_other, left-own}
+use Rattle.graph.proofs.Lefts.{Left}
 use Rattle.graph.proofs.completion.complete_sinks.Given as goal
 
 abbrev pub invariant-loop-k : goal.invariant-loop-k

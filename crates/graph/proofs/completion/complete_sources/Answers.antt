@@ -1,13 +1,12 @@
 -- `completion::complete_sources`: each turn keeps what is left to do, by the laws of `Sinks`.
 -- Assumes nothing.
-use Prim.Native.Nat.{◌-◌}
 use mathlib.Core.Path.{◌≡◌, refl}
 use native.Mathlib.Omega.{arith}
 use lib.ListN.{length}
 use Rattle.laws.proofs.Lists.{mapped_long}
 use Rattle.graph.specs.code.Tables.{items_of, lines_of}
 use Rattle.graph.proofs.Lists.{node-graph}
-use Rattle.graph.proofs.Sinks.{same_refl, Right, right_end, right-other, right-sunk, right-own}
+use Rattle.graph.proofs.Sinks.{same_refl, right_end, right-other, right-sunk, right-own}
 use borrow.Author.Rules.{rules}
 use Rattle.graph.proofs.completion.complete_sources.Goals as goal
 use Rattle.graph.proofs.completion.complete_sources.Goals.{Start}

@@ -4,7 +4,6 @@ use mathlib.Core.Path.{refl, sym, ◌∙◌}
 use native.Mathlib.Omega.{arith}
 use borrow.Author.Tests.{lt-ltb, le-ltb}
 use Rattle.graph.proofs.Pairs.{false_true}
-use borrow.Author.Rules.{rules}
 use Rattle.graph.proofs.completion.gain_source.Goals as goal
 
 pub returns-then-n-q : goal.returns-then-n-q
@@ -14,9 +13,8 @@ pub returns-then-has_marked : goal.returns-then-has_marked
 returns-then-has_marked c = (rw (lt-ltb c.args.q c.args.n c.if-n-q.false, sym c.has_marked.ensures ∙ c.if-has_marked.true), omega arith, λ k. refl)
 
 pub returns : goal.returns
-returns c =
-    (
-      rw (lt-ltb c.args.q c.args.n c.if-n-q.false, sym c.has_marked.ensures ∙ c.if-has_marked.false) c.push.ensures.items,
-      omega arith,
-      λ k. false_true (sym c.if-has_marked.false ∙ c.has_marked.ensures ∙ k),
-    )
+returns c = (
+  rw (lt-ltb c.args.q c.args.n c.if-n-q.false, sym c.has_marked.ensures ∙ c.if-has_marked.false) c.push.ensures.items,
+  omega arith,
+  λ k. false_true (sym c.if-has_marked.false ∙ c.has_marked.ensures ∙ k),
+)

@@ -1,8 +1,8 @@
 -- `completion::has_marked`: what is left to look at gives the answer.
 -- Assumes nothing.
-use Prim.Native.Nat.{◌+◌, ◌-◌}
+use Prim.Native.Nat.{◌+◌}
 use mathlib.Core.Bool.{◌||◌}
-use mathlib.Core.Path.{◌≡◌, refl, sym, ◌∙◌, ap}
+use mathlib.Core.Path.{◌≡◌, refl, sym, ◌∙◌}
 use lib.ListN.{length, drop}
 use Rattle.laws.proofs.Lists.{mapped_long}
 use Rattle.graph.specs.Graph.{has_marked}

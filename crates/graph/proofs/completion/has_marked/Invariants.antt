@@ -1,13 +1,10 @@
 -- `completion::has_marked`: what is left to look at gives the answer.
 -- Assumes nothing.
-use Prim.Native.Nat.{◌+◌, ◌-◌}
-use mathlib.Core.Bool.{◌||◌}
-use mathlib.Core.Path.{◌≡◌, refl, sym, ◌∙◌, ap}
-use lib.ListN.{length, drop}
-use Rattle.laws.proofs.Lists.{mapped_long}
+use Prim.Native.Nat.{◌-◌}
+use mathlib.Core.Path.{◌≡◌}
+use lib.ListN.{drop}
 use Rattle.graph.specs.Graph.{has_marked}
 use Rattle.graph.specs.code.Tables.{owned, items_of}
-use Rattle.graph.proofs.Lists.{marked-look, marked-none}
 use Rattle.graph.proofs.completion.has_marked.Given as goal
 
 abbrev pub invariant-loop-k : goal.invariant-loop-k

@@ -1,7 +1,6 @@
 -- `completion::is_marked`: each way out rewrites with the tests that led there.
 -- Assumes nothing.
 use borrow.Author.Tests.{eq-eqb, ne_eqb}
-use borrow.Author.Rules.{rules}
 use Rattle.graph.proofs.completion.is_marked.Goals as goal
 
 pub returns-then-e-p : goal.returns-then-e-p

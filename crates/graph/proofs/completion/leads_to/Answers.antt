@@ -1,12 +1,9 @@
 -- `completion::leads_to`: what is left to look at gives the answer.
 -- Assumes nothing.
-use Prim.Native.Nat.{◌-◌}
 use mathlib.Core.Path.{◌≡◌, refl, sym, ◌∙◌}
 use borrow.Author.Tests.{eq-eqb, ne_eqb}
-use lib.ListN.{length, drop}
+use lib.ListN.{length}
 use Rattle.laws.proofs.Lists.{mapped_long}
-use Rattle.graph.specs.Graph.{leads_to}
-use Rattle.graph.specs.code.Tables.{owned, items_of}
 use Rattle.graph.proofs.Lists.{leads-own, leads-other, leads-end}
 use borrow.Author.Rules.{rules}
 use Rattle.graph.proofs.completion.leads_to.Goals as goal

@@ -1,13 +1,10 @@
 -- `completion::leads_to`: what is left to look at gives the answer.
 -- Assumes nothing.
 use Prim.Native.Nat.{◌-◌}
-use mathlib.Core.Path.{◌≡◌, refl, sym, ◌∙◌}
-use borrow.Author.Tests.{eq-eqb, ne_eqb}
-use lib.ListN.{length, drop}
-use Rattle.laws.proofs.Lists.{mapped_long}
+use mathlib.Core.Path.{◌≡◌}
+use lib.ListN.{drop}
 use Rattle.graph.specs.Graph.{leads_to}
 use Rattle.graph.specs.code.Tables.{owned, items_of}
-use Rattle.graph.proofs.Lists.{leads-own, leads-other, leads-end}
 use Rattle.graph.proofs.completion.leads_to.Given as goal
 
 abbrev pub invariant-loop-k : goal.invariant-loop-k

@@ -15,9 +15,8 @@ long : (z : Start) → length z.args.t.items ≡ 88
 long z = search (rules, mapped_long)
 
 pub returns : goal.returns
-returns c =
-    (
-      rw (table_at c.args.t (long (goal.at.returns c).Start) c.requires.count_bound c.args.k c.requires.k_lt_count)
-          (take-set-lt c.args.t.count c.args.t.items c.args.k (mark_item c.args.m (get_or c.args.t.items c.args.k no_item)) c.requires.k_lt_count),
-      refl,
-    )
+returns c = (
+  rw (table_at c.args.t (long (goal.at.returns c).Start) c.requires.count_bound c.args.k c.requires.k_lt_count)
+      (take-set-lt c.args.t.count c.args.t.items c.args.k (mark_item c.args.m (get_or c.args.t.items c.args.k no_item)) c.requires.k_lt_count),
+  refl,
+)

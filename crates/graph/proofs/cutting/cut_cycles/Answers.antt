@@ -9,13 +9,12 @@ use mir.Val.{bool_byte}
 use lib.ListN.{length, get_or, set, length-set}
 use Rattle.laws.proofs.Lists.{mapped_long}
 use Rattle.graph.specs.declared.Item.{Item}
-use Rattle.graph.specs.declared.Table.{Table}
 use Rattle.graph.specs.declared.Tables.{Tables}
 use Rattle.graph.specs.declared.cutting.Look.{Look}
 use Rattle.graph.specs.Cutting.{Walk, explore_from}
 use Rattle.graph.specs.code.Tables.{items_of, Sunk}
 use Rattle.graph.specs.Outcome.{no_item}
-use Rattle.graph.specs.code.Explore.{Explore, no_look, IsFound, Ready, Kept, answer, effort, walk_of, CutTables, CutIf}
+use Rattle.graph.specs.code.Explore.{Explore, no_look, IsFound, Ready, Kept, answer, walk_of, CutTables, CutIf}
 use Rattle.graph.proofs.Lists.{table-size, table_at}
 use Rattle.graph.proofs.Cuts.{cut-to}
 use Rattle.graph.proofs.Advances.{begins, begun-is, ends, x-node_in, x-leave, x-k_in, x-sink_in, x-to_in, x-room, x-node, x-pass, x-enter, x-refuse, x-cut}

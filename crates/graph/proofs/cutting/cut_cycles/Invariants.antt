@@ -1,25 +1,14 @@
 -- `cutting::cut_cycles` is `cutting`: each step keeps what is left of the walk from a start, and each start what is left of the walks.
 -- Assumes nothing.
-use Prim.Native.Nat.{ℕ, ◌+◌, ◌-◌, ◌*◌, ◌<◌, ◌≤◌}
-use mathlib.Core.Path.{◌≡◌, refl, sym, ◌∙◌, subst}
-use mathlib.Core.Bool.{Bool, true, false}
-use mathlib.Core.List.{List, []}
-use native.Mathlib.Omega.{arith}
-use mir.Val.{bool_byte}
-use lib.ListN.{length, get_or, set, length-set}
-use Rattle.laws.proofs.Lists.{mapped_long}
-use Rattle.graph.specs.declared.Item.{Item}
+use Prim.Native.Nat.{ℕ, ◌-◌, ◌≤◌}
+use mathlib.Core.Path.{◌≡◌}
+use mathlib.Core.List.{List}
+use lib.ListN.{length}
 use Rattle.graph.specs.declared.Table.{Table}
 use Rattle.graph.specs.declared.Tables.{Tables}
 use Rattle.graph.specs.declared.cutting.Look.{Look}
-use Rattle.graph.specs.Cutting.{Walk, explore_from}
-use Rattle.graph.specs.code.Tables.{items_of, Sunk}
-use Rattle.graph.specs.Outcome.{no_item}
-use Rattle.graph.specs.code.Explore.{Explore, no_look, IsFound, Ready, Kept, answer, effort, walk_of, CutTables, CutIf}
-use Rattle.graph.proofs.Lists.{table-size, table_at}
-use Rattle.graph.proofs.Cuts.{cut-to}
-use Rattle.graph.proofs.Advances.{begins, begun-is, ends, x-node_in, x-leave, x-k_in, x-sink_in, x-to_in, x-room, x-node, x-pass, x-enter, x-refuse, x-cut}
-use Rattle.graph.proofs.Roots.{Started, start-pass, start-walk, start-over, start_first, start_none, start-last}
+use Rattle.graph.specs.code.Explore.{Explore, Ready, answer, effort}
+use Rattle.graph.proofs.Roots.{Started}
 use Rattle.graph.proofs.cutting.cut_cycles.Given as goal
 
 -- the walk's state, of which the code has each part in a variable

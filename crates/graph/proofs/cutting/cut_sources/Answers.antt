@@ -6,7 +6,6 @@ use mathlib.Core.List.{List, ◌++◌}
 use Rattle.laws.specs.Lists.{one}
 use Rattle.graph.specs.declared.Item.{Item}
 use Rattle.graph.specs.code.Tables.{source_of}
-use borrow.Author.Rules.{rules}
 use Rattle.graph.proofs.cutting.cut_sources.Goals as goal
 
 pub returns : goal.returns

@@ -1,11 +1,11 @@
 -- `cutting::find_sink`: j counts the records of c among the first k.
 -- Assumes nothing.
-use Prim.Native.Nat.{ℕ, ◌+◌, ◌-◌, ◌≤◌, ◌<◌}
+use Prim.Native.Nat.{ℕ, ◌+◌, ◌<◌}
 use mathlib.Core.Path.{◌≡◌, refl, ◌∙◌, sym, ap}
 use lib.ListN.{length, take}
 use lib.Seq.{take_all}
 use Rattle.laws.proofs.Lists.{mapped_long}
-use Rattle.graph.specs.code.Tables.{owned, items_of}
+use Rattle.graph.specs.code.Tables.{items_of}
 use Rattle.graph.proofs.Lists.{table-size, table_at}
 use Rattle.graph.proofs.Cuts.{counted-own, counted-other}
 use borrow.Author.Rules.{rules}

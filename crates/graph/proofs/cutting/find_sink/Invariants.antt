@@ -1,13 +1,9 @@
 -- `cutting::find_sink`: j counts the records of c among the first k.
 -- Assumes nothing.
-use Prim.Native.Nat.{ℕ, ◌+◌, ◌-◌, ◌≤◌, ◌<◌}
-use mathlib.Core.Path.{◌≡◌, refl, ◌∙◌, sym, ap}
+use Prim.Native.Nat.{◌-◌, ◌≤◌}
+use mathlib.Core.Path.{◌≡◌}
 use lib.ListN.{length, take}
-use lib.Seq.{take_all}
-use Rattle.laws.proofs.Lists.{mapped_long}
 use Rattle.graph.specs.code.Tables.{owned, items_of}
-use Rattle.graph.proofs.Lists.{table-size, table_at}
-use Rattle.graph.proofs.Cuts.{counted-own, counted-other}
 use Rattle.graph.proofs.cutting.find_sink.Given as goal
 
 abbrev pub invariant-loop-k : goal.invariant-loop-k

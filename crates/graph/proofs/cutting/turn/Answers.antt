@@ -1,6 +1,6 @@
 -- `cutting::turn`: the records below k are turned.
 -- Assumes nothing.
-use Prim.Native.Nat.{ℕ, ◌-◌, ◌≤◌, ◌<◌}
+use Prim.Native.Nat.{ℕ, ◌≤◌, ◌<◌}
 use mathlib.Core.Path.{◌≡◌, refl, ◌∙◌, sym, ap}
 use mathlib.Core.List.{List, ◌++◌, map, append-nil}
 use native.Mathlib.Omega.{arith}

@@ -1,7 +1,6 @@
 -- `cutting::turned`: each way out rewrites with the tests that led there.
 -- Assumes nothing.
 use borrow.Author.Tests.{eq-eqb, ne_eqb}
-use borrow.Author.Rules.{rules}
 use Rattle.graph.proofs.cutting.turned.Goals as goal
 
 pub returns-then-e-q : goal.returns-then-e-q

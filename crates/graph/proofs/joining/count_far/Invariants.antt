@@ -1,15 +1,9 @@
 -- `joining::count_far`: c counts the records among the first k that lead to none of the first n nodes.
 -- Assumes nothing.
-use Prim.Native.Nat.{ℕ, ◌+◌, ◌-◌, ◌≤◌, ◌<◌}
-use mathlib.Core.Path.{◌≡◌, refl, ◌∙◌, sym, ap}
-use mathlib.Core.List.{List}
+use Prim.Native.Nat.{◌-◌, ◌≤◌}
+use mathlib.Core.Path.{◌≡◌}
 use lib.ListN.{length, take}
-use lib.Seq.{take_all}
-use Rattle.laws.proofs.Lists.{mapped_long}
-use Rattle.graph.specs.declared.Item.{Item}
 use Rattle.graph.specs.code.Tables.{far, items_of}
-use Rattle.graph.proofs.Lists.{table-size, table_at}
-use Rattle.graph.proofs.Boxes.{far_out, far_in}
 use Rattle.graph.proofs.joining.count_far.Given as goal
 
 abbrev pub invariant-loop-k : goal.invariant-loop-k

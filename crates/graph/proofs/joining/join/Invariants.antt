@@ -1,9 +1,7 @@
 -- `joining::join`: each node keeps what is left to do, by the laws of `Boxes`.
 -- Assumes nothing.
 use Prim.Native.Nat.{◌-◌}
-use native.Mathlib.Omega.{arith}
-use mathlib.Core.Path.{sym, ◌∙◌}
-use Rattle.graph.proofs.Boxes.{none-joined, Passing, passing_first, passing_last, passing_sinks, passing_sources, passing_next}
+use Rattle.graph.proofs.Boxes.{Passing}
 use Rattle.graph.proofs.joining.join.Given as goal
 
 abbrev pub invariant-loop-p : goal.invariant-loop-p

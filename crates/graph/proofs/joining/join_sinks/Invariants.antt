@@ -1,18 +1,11 @@
 -- `joining::join_sinks`: each turn keeps what is left to do, by the laws of `BoxTurns`.
 -- Assumes nothing.
-use Prim.Native.Nat.{ℕ, ◌+◌, ◌-◌, ◌≤◌, ◌<◌}
-use mathlib.Core.Path.{◌≡◌, refl, ap, sym, ◌∙◌}
-use native.Mathlib.Omega.{arith}
-use lib.ListN.{length, get_or, length-set}
-use Rattle.laws.proofs.Lists.{mapped_long}
-use Rattle.graph.specs.declared.Item.{Item}
-use Rattle.graph.specs.declared.Tables.{Tables}
+use Prim.Native.Nat.{◌-◌}
+use mathlib.Core.Path.{◌≡◌}
+use lib.ListN.{length}
 use Rattle.graph.specs.Joining.{join_sink, join_sinks}
-use Rattle.graph.specs.Outcome.{no_item}
-use Rattle.graph.specs.code.Tables.{items_of, graph_of, lines_of, Fits, owned}
-use Rattle.graph.proofs.Lists.{node-graph}
-use Rattle.graph.proofs.Boxes.{Going, going_first, going_end}
-use Rattle.graph.proofs.BoxTurns.{with, sinks-other, sinks-number, sinks-kept, sinks_room, sinks_joined}
+use Rattle.graph.proofs.Boxes.{Going}
+use Rattle.graph.proofs.BoxTurns.{with}
 use Rattle.graph.proofs.joining.join_sinks.Given as goal
 
 abbrev pub invariant-loop-k : goal.invariant-loop-k

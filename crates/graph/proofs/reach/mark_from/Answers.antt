@@ -5,7 +5,6 @@ use mathlib.Core.Path.{◌≡◌, refl, sym, ◌∙◌}
 use native.Mathlib.Omega.{arith}
 use lib.ListN.{length, take}
 use Rattle.laws.proofs.Lists.{mapped_long}
-use Rattle.graph.specs.code.Path.{Good, answer, effort}
 use Rattle.graph.specs.code.Tables.{graph_of}
 use Rattle.graph.proofs.Steps.{mark-seen, seen_at, starts, starts-good, ends, step-pop, step_other, step-seen, step_push, step_room, step-to}
 use borrow.Author.Rules.{rules}

@@ -1,13 +1,7 @@
 -- `reach::mark_from` is the walk of `Cut`: each step keeps what is left of the walk, and nothing is left of it where the path is empty.
 -- Assumes nothing.
-use Prim.Native.Nat.{◌-◌, ◌<◌}
-use mathlib.Core.Path.{◌≡◌, refl, sym, ◌∙◌}
-use native.Mathlib.Omega.{arith}
-use lib.ListN.{length, take}
-use Rattle.laws.proofs.Lists.{mapped_long}
+use mathlib.Core.Path.{◌≡◌}
 use Rattle.graph.specs.code.Path.{Good, answer, effort}
-use Rattle.graph.specs.code.Tables.{graph_of}
-use Rattle.graph.proofs.Steps.{mark-seen, seen_at, starts, starts-good, ends, step-pop, step_other, step-seen, step_push, step_room, step-to}
 use Rattle.graph.proofs.reach.mark_from.Given as goal
 
 abbrev pub invariant-loop-s : goal.invariant-loop-s

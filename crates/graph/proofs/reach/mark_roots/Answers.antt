@@ -1,9 +1,7 @@
 -- `reach::mark_roots`: what is left to mark gives the whole.
 -- Assumes nothing.
-use Prim.Native.Nat.{◌-◌, ◌≤◌}
 use mathlib.Core.Path.{◌≡◌, sym, ◌∙◌, ap}
 use native.Mathlib.Omega.{arith}
-use lib.ListN.{take}
 use Rattle.graph.proofs.Roots.{rooted, roots-look, roots-first, roots-last}
 use borrow.Author.Rules.{rules}
 use Rattle.graph.proofs.reach.mark_roots.Goals as goal

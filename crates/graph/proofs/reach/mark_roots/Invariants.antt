@@ -1,10 +1,9 @@
 -- `reach::mark_roots`: what is left to mark gives the whole.
 -- Assumes nothing.
 use Prim.Native.Nat.{◌-◌, ◌≤◌}
-use mathlib.Core.Path.{◌≡◌, sym, ◌∙◌, ap}
-use native.Mathlib.Omega.{arith}
+use mathlib.Core.Path.{◌≡◌}
 use lib.ListN.{take}
-use Rattle.graph.proofs.Roots.{rooted, roots-look, roots-first, roots-last}
+use Rattle.graph.proofs.Roots.{rooted}
 use Rattle.graph.proofs.reach.mark_roots.Given as goal
 
 abbrev pub invariant-loop-p : goal.invariant-loop-p

@@ -4,7 +4,6 @@ use mathlib.Core.Path.{subst}
 use Rattle.graph.specs.code.Tables.{items_of}
 use Rattle.graph.specs.code.Explore.{IsFound}
 use Rattle.graph.proofs.Cuts.{none_of, some_of}
-use borrow.Author.Rules.{rules}
 use Rattle.graph.proofs.reach.owns_none.Goals as goal
 
 pub returns-in-Nothing : goal.returns-in-Nothing

@@ -1,16 +1,11 @@
 -- `columns::average_all`: one node more at each turn, the columns as moved so far.
 -- Assumes nothing.
-use Prim.Native.Nat.{◌≤◌, ◌-◌, ◌+◌}
-use native.Mathlib.Omega.{arith}
-use mathlib.Core.Path.{◌≡◌, refl, ap, ◌∙◌}
-use mathlib.Core.List.{◌++◌}
-use lib.ListN.{length, take, drop}
+use Prim.Native.Nat.{◌≤◌, ◌-◌}
+use mathlib.Core.Path.{◌≡◌}
+use lib.ListN.{take, drop}
 use Rattle.laws.specs.Each.{each}
-use Rattle.grid.specs.Columns.{average_to, average_one, average}
+use Rattle.grid.specs.Columns.{average_one}
 use Rattle.grid.specs.code.Leads.{shape_in}
-use Rattle.grid.specs.code.Arrays.{Boxes}
-use Rattle.grid.proofs.LeadLaws.{leads-long}
-use Rattle.grid.proofs.RoundLaws.{step-take, step-drop, steps_whole, average-same, averaged_boxes}
 use Rattle.grid.proofs.columns.average_all.Given as goal
 
 abbrev pub invariant-loop-p : goal.invariant-loop-p

@@ -1,7 +1,6 @@
 -- `columns::average_to`: the place between the neighbours, and the store is the definition's.
 -- Assumes nothing.
 use Rattle.grid.proofs.AverageLaws.{next-beyond, low-high, average-is}
-use borrow.Author.Rules.{rules}
 use Rattle.grid.proofs.columns.average_to.Goals as goal
 
 pub right_end-high-requires : goal.right_end-high-requires

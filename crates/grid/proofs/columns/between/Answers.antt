@@ -1,11 +1,10 @@
 -- `columns::between`: it counts down, so that it meets the boxes in the order of the definitions.
 -- Assumes nothing.
-use Prim.Native.Nat.{◌≤◌, ◌<◌, ◌-◌}
+use Prim.Native.Nat.{◌<◌, ◌-◌}
 use native.Mathlib.Omega.{arith}
 use mathlib.Core.Path.{◌≡◌}
-use lib.ListN.{length}
 use Rattle.grid.specs.Columns.{at}
-use Rattle.grid.proofs.AverageLaws.{Free, OneMore, all-free, one_more}
+use Rattle.grid.proofs.AverageLaws.{OneMore, all-free, one_more}
 use borrow.Author.Rules.{rules}
 use Rattle.grid.proofs.columns.between.Goals as goal
 use Rattle.grid.proofs.columns.between.Goals.{In-loop-k}

@@ -1,9 +1,8 @@
 -- `columns::columns`: one round more at each turn.
 -- Assumes nothing.
-use Prim.Native.Nat.{◌≤◌, ◌-◌}
 use native.Mathlib.Omega.{arith}
 use mathlib.Core.Path.{◌≡◌, refl}
-use lib.ListN.{take, drop}
+use lib.ListN.{take}
 use Rattle.laws.specs.Each.{each}
 use Rattle.grid.specs.Columns.{round}
 use Rattle.grid.specs.code.Leads.{shape_in}

@@ -1,14 +1,11 @@
 -- `columns::columns`: one round more at each turn.
 -- Assumes nothing.
 use Prim.Native.Nat.{◌≤◌, ◌-◌}
-use native.Mathlib.Omega.{arith}
-use mathlib.Core.Path.{◌≡◌, refl}
+use mathlib.Core.Path.{◌≡◌}
 use lib.ListN.{take, drop}
 use Rattle.laws.specs.Each.{each}
 use Rattle.grid.specs.Columns.{round}
 use Rattle.grid.specs.code.Leads.{shape_in}
-use Rattle.grid.proofs.LeadLaws.{leads-long}
-use Rattle.grid.proofs.RoundLaws.{step-take, step-drop, steps_whole, round_same, rounds_boxes, rounds_whole}
 use Rattle.grid.proofs.columns.columns.Given as goal
 
 abbrev pub invariant-loop-k : goal.invariant-loop-k

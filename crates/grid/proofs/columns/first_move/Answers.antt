@@ -1,6 +1,6 @@
 -- `columns::first_move`: the lowest and the highest column of the incidents, and whether the place is free.
 -- Assumes nothing.
-use Prim.Native.Nat.{ℕ, ◌≤◌, ◌<◌, ◌-◌, ◌+◌, ◌*◌}
+use Prim.Native.Nat.{ℕ, ◌≤◌, ◌<◌, ◌+◌, ◌*◌}
 use native.Mathlib.Omega.{arith}
 use mathlib.Core.Path.{sym, ◌∙◌}
 use mathlib.Core.List.{map}
@@ -9,7 +9,6 @@ use Rattle.grid.specs.code.Leads.{part}
 use Rattle.grid.proofs.ListLaws.{smallest_le}
 use Rattle.grid.proofs.PartLaws.{rise, few, leads, columns-below}
 use Rattle.grid.proofs.MoveLaws.{few_stay, taken-stays, free_moves}
-use borrow.Author.Rules.{rules}
 use Rattle.grid.proofs.columns.first_move.Goals as goal
 use Rattle.grid.proofs.columns.first_move.Goals.{Start}
 

@@ -1,9 +1,8 @@
 -- `columns::first_moves`: one node more at each turn, the columns as moved so far.
 -- Assumes nothing.
-use Prim.Native.Nat.{◌≤◌, ◌-◌}
 use native.Mathlib.Omega.{arith}
 use mathlib.Core.Path.{◌≡◌, refl}
-use lib.ListN.{length, take, drop}
+use lib.ListN.{length, take}
 use Rattle.laws.specs.Each.{each}
 use Rattle.grid.specs.Columns.{first_move, first_moves}
 use Rattle.grid.specs.code.Leads.{shape_in}

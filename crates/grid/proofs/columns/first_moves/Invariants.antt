@@ -1,14 +1,11 @@
 -- `columns::first_moves`: one node more at each turn, the columns as moved so far.
 -- Assumes nothing.
 use Prim.Native.Nat.{◌≤◌, ◌-◌}
-use native.Mathlib.Omega.{arith}
-use mathlib.Core.Path.{◌≡◌, refl}
-use lib.ListN.{length, take, drop}
+use mathlib.Core.Path.{◌≡◌}
+use lib.ListN.{take, drop}
 use Rattle.laws.specs.Each.{each}
-use Rattle.grid.specs.Columns.{first_move, first_moves}
+use Rattle.grid.specs.Columns.{first_move}
 use Rattle.grid.specs.code.Leads.{shape_in}
-use Rattle.grid.proofs.LeadLaws.{leads-long}
-use Rattle.grid.proofs.RoundLaws.{step-take, step-drop, steps_whole, move_same, moved-boxes}
 use Rattle.grid.proofs.columns.first_moves.Given as goal
 
 abbrev pub invariant-loop-p : goal.invariant-loop-p

@@ -1,9 +1,8 @@
 -- `columns::folds`: one fold more at each turn.
 -- Assumes nothing.
-use Prim.Native.Nat.{◌≤◌, ◌-◌}
 use native.Mathlib.Omega.{arith}
 use mathlib.Core.Path.{◌≡◌, refl}
-use lib.ListN.{take, drop}
+use lib.ListN.{take}
 use Rattle.laws.specs.Each.{each}
 use Rattle.grid.specs.Columns.{fold_from}
 use Rattle.grid.proofs.RoundLaws.{step-take, step-drop, steps_whole, fold_same, folded_boxes}

@@ -1,12 +1,10 @@
 -- `columns::folds`: one fold more at each turn.
 -- Assumes nothing.
 use Prim.Native.Nat.{◌≤◌, ◌-◌}
-use native.Mathlib.Omega.{arith}
-use mathlib.Core.Path.{◌≡◌, refl}
+use mathlib.Core.Path.{◌≡◌}
 use lib.ListN.{take, drop}
 use Rattle.laws.specs.Each.{each}
 use Rattle.grid.specs.Columns.{fold_from}
-use Rattle.grid.proofs.RoundLaws.{step-take, step-drop, steps_whole, fold_same, folded_boxes}
 use Rattle.grid.proofs.columns.folds.Given as goal
 
 abbrev pub invariant-loop-start : goal.invariant-loop-start

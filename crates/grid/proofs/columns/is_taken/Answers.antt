@@ -1,15 +1,11 @@
 -- `columns::is_taken`: one box more at each turn, none of them there so far.
 -- Assumes nothing.
-use Prim.Native.Nat.{◌≤◌, ◌<◌, ◌-◌}
+use Prim.Native.Nat.{◌<◌}
 use native.Mathlib.Omega.{arith}
 use mathlib.Core.Path.{◌≡◌, sym}
-use mathlib.Core.Bool.{false}
-use mathlib.Core.Logic.{⊎_elim}
-use lib.ListN.{length, take}
+use lib.ListN.{length}
 use borrow.Author.Tests.{ne_eqb}
-use Rattle.grid.specs.Columns.{at, taken}
 use Rattle.grid.proofs.FoldLaws.{other_row, other-column, taken-there}
-use borrow.Author.Rules.{rules}
 use Rattle.grid.proofs.columns.is_taken.Goals as goal
 use Rattle.grid.proofs.columns.is_taken.Goals.{else-ys-k-via-then-ys-k+else-xs-k, else-ys-k-via-else-ys-k}
 
@@ -26,8 +22,8 @@ loop-k-preserved c =
     let hr : l.k < length a.rows.now = omega arith in
     let hc : l.k < length a.cols.now = omega arith in
     elim c.else-ys-k.branch [
-      else-ys-k-via-then-ys-k+else-xs-k w ↦ (omega arith, other-column a.rows.now a.cols.now l.k a.r a.x hr hc l.invariant.1 (ne_eqb _ _ w.if-xs-k.false))
-    | else-ys-k-via-else-ys-k w ↦ (omega arith, other_row a.rows.now a.cols.now l.k a.r a.x hr hc l.invariant.1 w.if-ys-k.false)
+      | else-ys-k-via-then-ys-k+else-xs-k w ↦ (omega arith, other-column a.rows.now a.cols.now l.k a.r a.x hr hc l.invariant.1 (ne_eqb _ _ w.if-xs-k.false))
+      | else-ys-k-via-else-ys-k w ↦ (omega arith, other_row a.rows.now a.cols.now l.k a.r a.x hr hc l.invariant.1 w.if-ys-k.false)
     ]
 
 pub returns : goal.returns

@@ -1,14 +1,10 @@
 -- `columns::is_taken`: one box more at each turn, none of them there so far.
 -- Assumes nothing.
-use Prim.Native.Nat.{◌≤◌, ◌<◌, ◌-◌}
-use native.Mathlib.Omega.{arith}
-use mathlib.Core.Path.{◌≡◌, sym}
+use Prim.Native.Nat.{◌≤◌, ◌-◌}
+use mathlib.Core.Path.{◌≡◌}
 use mathlib.Core.Bool.{false}
-use mathlib.Core.Logic.{⊎_elim}
-use lib.ListN.{length, take}
-use borrow.Author.Tests.{eqb-true}
-use Rattle.grid.specs.Columns.{at, taken}
-use Rattle.grid.proofs.FoldLaws.{other_row, other-column, taken-there}
+use lib.ListN.{take}
+use Rattle.grid.specs.Columns.{taken}
 use Rattle.grid.proofs.columns.is_taken.Given as goal
 
 abbrev pub invariant-loop-k : goal.invariant-loop-k

@@ -4,7 +4,6 @@ use Prim.Native.Nat.{ℕ, ◌/◌, ◌%◌, ◌^◌}
 use mathlib.Core.Path.{ap}
 use lib.Dec.{eqb}
 use Rattle.grid.specs.Columns.{at}
-use borrow.Author.Rules.{rules}
 use Rattle.grid.proofs.columns.is_used.Goals as goal
 
 pub returns : goal.returns

@@ -1,14 +1,11 @@
 -- `columns::largest_end`: it counts down, so that it meets the ends in the order of the definition.
 -- Assumes nothing.
-use Prim.Native.Nat.{◌≤◌, ◌<◌, ◌-◌}
-use native.Mathlib.Omega.{arith}
-use mathlib.Core.Path.{◌≡◌, ap, sym}
+use Prim.Native.Nat.{◌≤◌}
+use mathlib.Core.Path.{◌≡◌}
 use mathlib.Core.List.{map}
-use lib.ListN.{length}
 use Rattle.grid.specs.Lists.{largest}
 use Rattle.grid.specs.Columns.{at}
 use Rattle.grid.specs.code.Leads.{part}
-use Rattle.grid.proofs.PartLaws.{part_none, part-down, part-long}
 use Rattle.grid.proofs.columns.largest_end.Given as goal
 
 abbrev pub invariant-loop-k : goal.invariant-loop-k

@@ -1,6 +1,5 @@
 -- `columns::largest_of`: the loop counts down, so that it meets the numbers in the order of the definition.
 -- Assumes nothing.
-use Prim.Native.Nat.{◌≤◌, ◌-◌}
 use native.Mathlib.Omega.{arith}
 use mathlib.Core.Path.{◌≡◌, ap, ◌∙◌}
 use lib.ListN.{take, drop}

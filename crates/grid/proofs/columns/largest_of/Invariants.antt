@@ -1,11 +1,9 @@
 -- `columns::largest_of`: the loop counts down, so that it meets the numbers in the order of the definition.
 -- Assumes nothing.
-use Prim.Native.Nat.{◌≤◌, ◌-◌}
-use native.Mathlib.Omega.{arith}
-use mathlib.Core.Path.{◌≡◌, ap, ◌∙◌}
+use Prim.Native.Nat.{◌≤◌}
+use mathlib.Core.Path.{◌≡◌}
 use lib.ListN.{take, drop}
 use Rattle.grid.specs.Lists.{largest}
-use Rattle.grid.proofs.FoldLaws.{largest-end, largest-down}
 use Rattle.grid.proofs.columns.largest_of.Given as goal
 
 abbrev pub invariant-loop-k : goal.invariant-loop-k

@@ -1,12 +1,11 @@
 -- `columns::new_columns`: the inner loop has passed rows without a collision, and what it yields is `collided`; each turn of the outer loop adds one pair to the table.
 -- Assumes nothing.
-use Prim.Native.Nat.{ℕ, ◌≤◌, ◌-◌, ◌+◌, ◌*◌}
+use Prim.Native.Nat.{ℕ, ◌≤◌, ◌+◌, ◌*◌}
 use native.Mathlib.Omega.{arith}
 use mathlib.Core.Path.{◌≡◌, refl, ap, sym, ◌∙◌}
-use mathlib.Core.Logic.{⊎_elim}
-use mathlib.Core.Bool.{Bool, false, cond}
-use lib.ListN.{length, take, set, length-set}
-use Rattle.grid.specs.code.Arrays.{collision_in, extra_in, table_to, next_new}
+use mathlib.Core.Bool.{Bool, cond}
+use lib.ListN.{set, length-set}
+use Rattle.grid.specs.code.Arrays.{collision_in, extra_in}
 use Rattle.grid.proofs.ColumnLaws.{extra_le}
 use Rattle.grid.proofs.FoldLaws.{table_more, next-next, table_none}
 use Rattle.grid.proofs.UsedLaws.{not_first, not_second, found_in}
@@ -25,9 +24,9 @@ collided c =
     let u = a.used.now in
     let r = c.loop-row.row in
     elim c.if-height-row.branch [
-      then-height-row w ↦ let e : r ≡ a.height = omega arith in w.collision-is ∙ sym c.loop-row.invariant.1 ∙ ap (collision_in u (pair c)) e
-    | else-height-row+then-is_used+then-is_used-2 w ↦
-        w.collision-is ∙ sym (found_in u (pair c) r a.height w.if-height-row.false (sym w.is_used.ensures ∙ w.if-is_used.true) (sym w.is_used-then-is_used.ensures ∙ w.if-is_used-2.true))
+      | then-height-row w ↦ let e : r ≡ a.height = omega arith in w.collision-is ∙ sym c.loop-row.invariant.1 ∙ ap (collision_in u (pair c)) e
+      | else-height-row+then-is_used+then-is_used-2 w ↦
+          w.collision-is ∙ sym (found_in u (pair c) r a.height w.if-height-row.false (sym w.is_used.ensures ∙ w.if-is_used.true) (sym w.is_used-then-is_used.ensures ∙ w.if-is_used-2.true))
     ]
 
 more-is : (c : After-one_if-more) → c.one_if-more.result ≡ extra_in c.args.used.now c.args.height (pair c)
@@ -50,8 +49,8 @@ loop-row-preserved c =
     let r = c.loop-row.row in
     let clear = c.loop-row.invariant.1 in
     elim c.else-is_used.branch [
-      else-is_used-via-then-is_used+else-is_used-2 w ↦ (search rules, not_second u x r clear (sym w.is_used-then-is_used.ensures ∙ w.if-is_used-2.false))
-    | else-is_used-via-else-is_used w ↦ (search rules, not_first u x r clear (sym c.is_used.ensures ∙ w.if-is_used.false))
+      | else-is_used-via-then-is_used+else-is_used-2 w ↦ (search rules, not_second u x r clear (sym w.is_used-then-is_used.ensures ∙ w.if-is_used-2.false))
+      | else-is_used-via-else-is_used w ↦ (search rules, not_first u x r clear (sym c.is_used.ensures ∙ w.if-is_used.false))
     ]
 
 pub overflow_add-table : goal.overflow_add-table

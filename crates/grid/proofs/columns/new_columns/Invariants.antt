@@ -1,15 +1,10 @@
 -- `columns::new_columns`: the inner loop has passed rows without a collision, and what it yields is `collided`; each turn of the outer loop adds one pair to the table.
 -- Assumes nothing.
-use Prim.Native.Nat.{ℕ, ◌≤◌, ◌-◌, ◌+◌, ◌*◌}
-use native.Mathlib.Omega.{arith}
-use mathlib.Core.Path.{◌≡◌, refl, ap, sym, ◌∙◌}
-use mathlib.Core.Logic.{⊎_elim}
-use mathlib.Core.Bool.{Bool, false, cond}
-use lib.ListN.{length, take, set, length-set}
+use Prim.Native.Nat.{◌≤◌, ◌-◌, ◌+◌, ◌*◌}
+use mathlib.Core.Path.{◌≡◌}
+use mathlib.Core.Bool.{false}
+use lib.ListN.{length, take}
 use Rattle.grid.specs.code.Arrays.{collision_in, extra_in, table_to, next_new}
-use Rattle.grid.proofs.ColumnLaws.{extra_le}
-use Rattle.grid.proofs.FoldLaws.{table_more, next-next, table_none}
-use Rattle.grid.proofs.UsedLaws.{not_first, not_second, found_in}
 use Rattle.grid.proofs.columns.new_columns.Given as goal
 
 abbrev pub invariant-loop-row : goal.invariant-loop-row

@@ -1,12 +1,10 @@
 -- `columns::rename`: one box more goes by the table at each turn.
 -- Assumes nothing.
-use Prim.Native.Nat.{◌≤◌, ◌<◌, ◌-◌, ◌+◌}
-use native.Mathlib.Omega.{arith}
-use mathlib.Core.Path.{◌≡◌, ap, ◌∙◌}
+use Prim.Native.Nat.{◌≤◌, ◌-◌}
+use mathlib.Core.Path.{◌≡◌}
 use mathlib.Core.List.{◌++◌, map}
 use lib.ListN.{take, drop}
 use Rattle.grid.specs.Columns.{at}
-use Rattle.grid.proofs.FoldLaws.{renamed-at, renamed-more}
 use Rattle.grid.proofs.columns.rename.Given as goal
 
 abbrev pub invariant-loop-k : goal.invariant-loop-k

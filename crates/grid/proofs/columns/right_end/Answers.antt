@@ -1,7 +1,6 @@
 -- `columns::right_end`: by its test.
 -- Assumes nothing.
 use borrow.Author.Tests.{eq-eqb, ne_eqb}
-use borrow.Author.Rules.{rules}
 use Rattle.grid.proofs.columns.right_end.Goals as goal
 
 pub returns-then-next-eq255 : goal.returns-then-next-eq255

@@ -2,7 +2,6 @@
 -- Assumes nothing.
 use Rattle.grid.specs.code.Leads.{shape_in}
 use Rattle.grid.proofs.RoundLaws.{twice_boxes, round_is}
-use borrow.Author.Rules.{rules}
 use Rattle.grid.proofs.columns.round.Goals as goal
 
 pub average_all-requires : goal.average_all-requires

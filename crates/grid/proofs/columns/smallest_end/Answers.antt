@@ -1,13 +1,11 @@
 -- `columns::smallest_end`: it counts down, so that it meets the ends in the order of the definition.
 -- Assumes nothing.
-use Prim.Native.Nat.{◌≤◌, ◌<◌, ◌-◌}
+use Prim.Native.Nat.{◌<◌, ◌-◌}
 use native.Mathlib.Omega.{arith}
 use mathlib.Core.Path.{◌≡◌, ap, sym}
 use mathlib.Core.List.{map}
-use lib.ListN.{length}
 use Rattle.grid.specs.Lists.{smallest}
 use Rattle.grid.specs.Columns.{at}
-use Rattle.grid.specs.code.Leads.{part}
 use Rattle.grid.proofs.PartLaws.{part_none, part-down}
 use borrow.Author.Rules.{rules}
 use Rattle.grid.proofs.columns.smallest_end.Goals as goal

@@ -2,7 +2,6 @@
 -- Assumes nothing.
 use native.Mathlib.Omega.{arith}
 use Rattle.grid.proofs.MoveLaws.{target_right, target-stays, target-near, target_left}
-use borrow.Author.Rules.{rules}
 use Rattle.grid.proofs.columns.target_of.Goals as goal
 
 pub returns-then-pos-low : goal.returns-then-pos-low

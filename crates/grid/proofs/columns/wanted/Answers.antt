@@ -4,7 +4,6 @@ use Prim.Native.Nat.{◌≤◌, ◌-◌, ◌+◌, ◌*◌}
 use native.Mathlib.Omega.{arith}
 use Rattle.grid.specs.Columns.{at}
 use Rattle.grid.proofs.PartLaws.{rise, few, leads, mean-small, wanted-none, wanted-some}
-use borrow.Author.Rules.{rules}
 use Rattle.grid.proofs.columns.wanted.Goals as goal
 use Rattle.grid.proofs.columns.wanted.Goals.{Start}
 

@@ -1,9 +1,7 @@
 -- `heights::heights`: one node more at each turn.
 -- Assumes nothing.
-use Prim.Native.Nat.{◌-◌, ◌≤◌}
 use native.Mathlib.Omega.{arith}
 use mathlib.Core.Path.{◌≡◌, ap, ◌∙◌}
-use lib.ListN.{drop, replicate}
 use Rattle.grid.specs.code.Leads.{shape_in}
 use Rattle.grid.specs.code.Walk.{rows_of}
 use Rattle.grid.proofs.LeadLaws.{leads-long}

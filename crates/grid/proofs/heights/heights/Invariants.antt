@@ -1,14 +1,12 @@
 -- `heights::heights`: one node more at each turn.
 -- Assumes nothing.
 use Prim.Native.Nat.{◌-◌, ◌≤◌}
-use native.Mathlib.Omega.{arith}
-use mathlib.Core.Path.{◌≡◌, ap, ◌∙◌}
+use mathlib.Core.Path.{◌≡◌}
 use lib.ListN.{drop, replicate}
 use Rattle.grid.specs.code.Leads.{shape_in}
 use Rattle.grid.specs.code.Walk.{rows_of}
 use Rattle.grid.proofs.LeadLaws.{leads-long}
-use Rattle.grid.proofs.LowerLaws.{done, done_first, done_more, done_all}
-use Rattle.laws.proofs.Lists.{drop-replicate}
+use Rattle.grid.proofs.LowerLaws.{done}
 use Rattle.grid.proofs.heights.heights.Given as goal
 
 abbrev pub invariant-loop-p : goal.invariant-loop-p

@@ -8,9 +8,9 @@ use lib.IntN.{ℤ, pos}
 use lib.ListN.{length, get_or}
 use mir.Syntax.{w8}
 use mir.Val.{to_z}
-use Rattle.grid.specs.code.Walk.{IsLeast, lesser_of}
+use Rattle.grid.specs.code.Walk.{lesser_of}
 use Rattle.grid.proofs.SignedLaws.{back, lesser_back}
-use Rattle.grid.proofs.LowerLaws.{part, least_first, least-down}
+use Rattle.grid.proofs.LowerLaws.{least_first, least-down}
 use borrow.Author.Rules.{rules}
 use Rattle.grid.proofs.heights.least_row.Goals as goal
 use Rattle.grid.proofs.heights.least_row.Goals.{Start}

@@ -1,16 +1,8 @@
 -- `heights::least_row` counts down.
 -- Assumes nothing.
-use Prim.Native.Nat.{◌-◌, ◌≤◌, ◌<◌}
-use native.Mathlib.Omega.{arith}
-use mathlib.Core.Path.{◌≡◌, ◌∙◌}
-use mathlib.Core.Bool.{Bool, false}
-use lib.IntN.{ℤ, pos}
-use lib.ListN.{length, get_or}
-use mir.Syntax.{w8}
-use mir.Val.{to_z}
-use Rattle.grid.specs.code.Walk.{IsLeast, lesser_of}
-use Rattle.grid.proofs.SignedLaws.{back, lesser_back}
-use Rattle.grid.proofs.LowerLaws.{part, least_first, least-down}
+use Prim.Native.Nat.{◌≤◌}
+use Rattle.grid.specs.code.Walk.{IsLeast}
+use Rattle.grid.proofs.LowerLaws.{part}
 use Rattle.grid.proofs.heights.least_row.Given as goal
 
 abbrev pub invariant-loop-k : goal.invariant-loop-k

@@ -5,15 +5,12 @@ use native.Mathlib.Omega.{arith}
 use mathlib.Core.Path.{◌≡◌, refl, ap, ◌∙◌}
 use mathlib.Core.Bool.{Bool, false}
 use lib.IntN.{ℤ, pos}
-use lib.ListN.{length, get_or, drop, length-set}
+use lib.ListN.{length, get_or, length-set}
 use lib.Seq.{drop-set-lt}
-use mir.Syntax.{w8}
-use mir.Val.{to_z}
 use Rattle.grid.specs.Columns.{at}
-use Rattle.grid.specs.Heights.{lowered}
-use Rattle.grid.specs.code.Walk.{raised, lower_by, renumbered_of}
+use Rattle.grid.specs.code.Walk.{lower_by, renumbered_of}
 use Rattle.grid.proofs.SignedLaws.{back, lower-back, renumbered-is, above-back}
-use Rattle.grid.proofs.LowerLaws.{from, part, above_at, lower-down, lower-end}
+use Rattle.grid.proofs.LowerLaws.{above_at, lower-down, lower-end}
 use borrow.Author.Rules.{rules}
 use Rattle.grid.proofs.heights.lower_all.Goals as goal
 use Rattle.grid.proofs.heights.lower_all.Goals.{Start}

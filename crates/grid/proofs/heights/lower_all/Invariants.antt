@@ -1,19 +1,11 @@
 -- `heights::lower_all` counts down.
 -- Assumes nothing.
-use Prim.Native.Nat.{ℕ, ◌-◌, ◌≤◌, ◌<◌}
-use native.Mathlib.Omega.{arith}
-use mathlib.Core.Path.{◌≡◌, refl, ap, ◌∙◌}
-use mathlib.Core.Bool.{Bool, false}
-use lib.IntN.{ℤ, pos}
-use lib.ListN.{length, get_or, drop, length-set}
-use lib.Seq.{drop-set-lt}
-use mir.Syntax.{w8}
-use mir.Val.{to_z}
-use Rattle.grid.specs.Columns.{at}
+use Prim.Native.Nat.{◌≤◌}
+use mathlib.Core.Path.{◌≡◌}
+use lib.ListN.{length, drop}
 use Rattle.grid.specs.Heights.{lowered}
-use Rattle.grid.specs.code.Walk.{raised, lower_by, renumbered_of}
-use Rattle.grid.proofs.SignedLaws.{back, lower-back, renumbered-is, above-back}
-use Rattle.grid.proofs.LowerLaws.{from, part, above_at, lower-down, lower-end}
+use Rattle.grid.specs.code.Walk.{raised}
+use Rattle.grid.proofs.LowerLaws.{from, part}
 use Rattle.grid.proofs.heights.lower_all.Given as goal
 
 abbrev pub invariant-loop-k : goal.invariant-loop-k

@@ -1,13 +1,11 @@
 -- `heights::numbers` counts down.
 -- Assumes nothing.
-use Prim.Native.Nat.{◌-◌, ◌≤◌}
+use Prim.Native.Nat.{◌-◌}
 use native.Mathlib.Omega.{arith}
 use mathlib.Core.Path.{◌≡◌, refl, sym, ◌∙◌}
-use mathlib.Core.List.{map}
-use lib.ListN.{length, take, drop, length-set, take-append-drop}
+use lib.ListN.{length, length-set, take-append-drop}
 use lib.Seq.{drop-set-lt}
-use Rattle.grid.specs.Lists.{or_else}
-use Rattle.grid.proofs.LowerLaws.{from, number-down, number-end}
+use Rattle.grid.proofs.LowerLaws.{number-down, number-end}
 use borrow.Author.Rules.{rules}
 use Rattle.grid.proofs.heights.numbers.Goals as goal
 use Rattle.grid.proofs.heights.numbers.Goals.{Start}

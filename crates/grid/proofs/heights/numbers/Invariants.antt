@@ -1,13 +1,11 @@
 -- `heights::numbers` counts down.
 -- Assumes nothing.
-use Prim.Native.Nat.{◌-◌, ◌≤◌}
-use native.Mathlib.Omega.{arith}
-use mathlib.Core.Path.{◌≡◌, refl, sym, ◌∙◌}
+use Prim.Native.Nat.{◌≤◌}
+use mathlib.Core.Path.{◌≡◌}
 use mathlib.Core.List.{map}
-use lib.ListN.{length, take, drop, length-set, take-append-drop}
-use lib.Seq.{drop-set-lt}
+use lib.ListN.{length, take, drop}
 use Rattle.grid.specs.Lists.{or_else}
-use Rattle.grid.proofs.LowerLaws.{from, number-down, number-end}
+use Rattle.grid.proofs.LowerLaws.{from}
 use Rattle.grid.proofs.heights.numbers.Given as goal
 
 abbrev pub invariant-loop-k : goal.invariant-loop-k

@@ -1,7 +1,6 @@
 -- `heights::renumbered`.
 -- Assumes nothing.
 use borrow.Author.Tests.{eq-eqb, ne_eqb}
-use borrow.Author.Rules.{rules}
 use Rattle.grid.proofs.heights.renumbered.Goals as goal
 
 pub returns-then-new-eq0 : goal.returns-then-new-eq0

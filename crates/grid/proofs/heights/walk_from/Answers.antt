@@ -12,12 +12,10 @@ use mir.Syntax.{w8}
 use mir.Val.{to_z, of_z}
 use Rattle.grid.specs.declared.heights.Frame.{Frame}
 use Rattle.grid.specs.Columns.{at}
-use Rattle.grid.specs.Heights.{reached_from}
-use Rattle.grid.specs.code.Leads.{shape_in, Led}
-use Rattle.grid.specs.code.Walk.{no_frame, signed_by, Path, Good, Stepped, answer, effort}
+use Rattle.grid.specs.code.Leads.{Led}
+use Rattle.grid.specs.code.Walk.{no_frame, signed_by, Path, Good, Stepped}
 use Rattle.grid.proofs.SignedLaws.{back, near_by}
 use Rattle.grid.proofs.WalkSteps.{step-node, step-near, step-pop, step-at, step-to, step-seen, step_room, step_push, ends, starts-good, starts}
-use borrow.Author.Rules.{rules}
 use Rattle.grid.proofs.heights.walk_from.Goals as goal
 use Rattle.grid.proofs.heights.walk_from.Goals.{In-loop-depth}
 

@@ -1,8 +1,6 @@
 -- `heights::without_one`.
 -- Assumes nothing.
-use Prim.Native.Nat.{◌-◌}
 use Rattle.grid.proofs.LowerLaws.{number-row}
-use borrow.Author.Rules.{rules}
 use Rattle.grid.proofs.heights.without_one.Goals as goal
 
 pub returns : goal.returns

@@ -1,11 +1,11 @@
 -- `label::end_label`: the invariant says what is found so far, or what is left to look at.
 -- Assumes nothing.
-use Prim.Native.Nat.{ℕ, ◌+◌, ◌-◌, ◌*◌, ◌<◌, ◌≤◌}
-use mathlib.Core.Path.{◌≡◌, refl, ap, sym, ◌∙◌}
-use mathlib.Core.List.{[], ◌∷◌, map}
+use Prim.Native.Nat.{ℕ, ◌+◌, ◌<◌, ◌≤◌}
+use mathlib.Core.Path.{◌≡◌, refl, sym, ◌∙◌}
+use mathlib.Core.List.{[], ◌∷◌}
 use native.Mathlib.Omega.{arith}
 use borrow.Author.Tests.{lt-ltb, le-ltb}
-use lib.ListN.{length, drop, take, get_or}
+use lib.ListN.{length, drop, get_or}
 use Rattle.laws.proofs.Lists.{mapped_long}
 use Rattle.grid.proofs.Arrays.{own-up, other-up, none_left}
 use Rattle.grid.proofs.LabelLaws.{seek-none, seek-first, seek-next}
@@ -14,7 +14,6 @@ use Rattle.graph.specs.Graph.{given}
 use Rattle.graph.specs.code.Tables.{owned, items_of, edge_of}
 use Rattle.graph.specs.Outcome.{no_item}
 use Rattle.grid.specs.RenderNode.{Text, end_texts, end_width}
-use Rattle.grid.specs.code.Sited.{seek}
 use borrow.Author.Rules.{rules}
 use Rattle.grid.proofs.label.end_label.Goals as goal
 use Rattle.grid.proofs.label.end_label.Goals.{After-struct_known-then-e-p-1, Start}

@@ -1,19 +1,10 @@
 -- `label::end_label`: the invariant says what is found so far, or what is left to look at.
 -- Assumes nothing.
-use Prim.Native.Nat.{ℕ, ◌+◌, ◌-◌, ◌*◌, ◌<◌, ◌≤◌}
-use mathlib.Core.Path.{◌≡◌, refl, ap, sym, ◌∙◌}
-use mathlib.Core.List.{[], ◌∷◌, map}
-use native.Mathlib.Omega.{arith}
-use borrow.Author.Tests.{lt-ltb, le-ltb}
-use lib.ListN.{length, drop, take, get_or}
-use Rattle.laws.proofs.Lists.{mapped_long}
-use Rattle.grid.proofs.Arrays.{own-up, other-up, none_left}
-use Rattle.grid.proofs.LabelLaws.{seek-none, seek-first, seek-next}
-use Rattle.graph.specs.declared.Item.{Item}
-use Rattle.graph.specs.Graph.{given}
-use Rattle.graph.specs.code.Tables.{owned, items_of, edge_of}
-use Rattle.graph.specs.Outcome.{no_item}
-use Rattle.grid.specs.RenderNode.{Text, end_texts, end_width}
+use Prim.Native.Nat.{◌+◌, ◌-◌, ◌*◌, ◌≤◌}
+use mathlib.Core.Path.{◌≡◌}
+use lib.ListN.{drop}
+use Rattle.graph.specs.code.Tables.{owned, items_of}
+use Rattle.grid.specs.RenderNode.{end_texts}
 use Rattle.grid.specs.code.Sited.{seek}
 use Rattle.grid.proofs.label.end_label.Given as goal
 

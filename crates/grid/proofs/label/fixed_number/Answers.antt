@@ -1,7 +1,6 @@
 -- `label::fixed_number`: each way out rewrites with what led there.
 -- Assumes nothing.
 use borrow.Author.Tests.{lt-ltb, le-ltb}
-use borrow.Author.Rules.{rules}
 use Rattle.grid.proofs.label.fixed_number.Goals as goal
 
 pub returns-then-name-lt256 : goal.returns-then-name-lt256

@@ -1,11 +1,7 @@
 -- `label::label_at`: each way out rewrites with what led there.
 -- Assumes nothing.
-use Prim.Native.Nat.{◌-◌}
-use mathlib.Core.Path.{ap}
 use native.Mathlib.Omega.{arith}
-use lib.ListN.{take}
 use Rattle.grid.proofs.LabelLaws.{label_first, label_second, label_third}
-use borrow.Author.Rules.{rules}
 use Rattle.grid.proofs.label.label_at.Goals as goal
 
 pub returns-then-first : goal.returns-then-first

@@ -1,9 +1,7 @@
 -- `label::node_of`: each way out rewrites with what led there.
 -- Assumes nothing.
-use Prim.Native.Nat.{◌-◌}
 use mathlib.Core.Path.{◌∙◌}
 use Rattle.grid.proofs.NodeLaws.{rendered_is}
-use borrow.Author.Rules.{rules}
 use Rattle.grid.proofs.label.node_of.Goals as goal
 
 pub returns : goal.returns

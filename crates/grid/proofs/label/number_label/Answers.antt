@@ -11,7 +11,6 @@ use Rattle.grid.specs.RenderNode.{line_texts}
 use Rattle.grid.specs.Labels.{place_of}
 use Rattle.grid.specs.code.Sited.{seek}
 use Rattle.grid.proofs.LabelLaws.{seek-none, seek-first, seek-next, held_text, held_place}
-use borrow.Author.Rules.{rules}
 use Rattle.grid.proofs.label.number_label.Goals as goal
 
 pub returns-then-name-eq512 : goal.returns-then-name-eq512

@@ -1,12 +1,12 @@
 -- `leads::leads_of`: after p turns the ends of the first p nodes are put, and their bounds.
 -- Assumes nothing.
-use Prim.Native.Nat.{ℕ, ◌+◌, ◌-◌, ◌≤◌}
+use Prim.Native.Nat.{ℕ, ◌+◌, ◌≤◌}
 use native.Mathlib.Omega.{arith}
 use mathlib.Core.Path.{◌≡◌, refl, sym, ◌∙◌}
 use lib.ListN.{length}
 use Rattle.graph.specs.declared.Ends.{Ends}
 use Rattle.graph.specs.Ends.{ends_of}
-use Rattle.grid.proofs.LeadLaws.{ends_to, table_to, ends-put, ends-long, ends-room, Bounds, bounds_none, bounds_next, leads-shape, leads-led}
+use Rattle.grid.proofs.LeadLaws.{ends_to, table_to, ends-put, ends-long, ends-room, bounds_none, bounds_next, leads-shape, leads-led}
 use borrow.Author.Rules.{rules}
 use Rattle.grid.proofs.leads.leads_of.Goals as goal
 use Rattle.grid.proofs.leads.leads_of.Goals.{At-loop-p}

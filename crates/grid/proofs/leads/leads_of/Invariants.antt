@@ -1,12 +1,9 @@
 -- `leads::leads_of`: after p turns the ends of the first p nodes are put, and their bounds.
 -- Assumes nothing.
-use Prim.Native.Nat.{ℕ, ◌+◌, ◌-◌, ◌≤◌}
-use native.Mathlib.Omega.{arith}
-use mathlib.Core.Path.{◌≡◌, refl, sym, ◌∙◌}
+use Prim.Native.Nat.{◌-◌, ◌≤◌}
+use mathlib.Core.Path.{◌≡◌}
 use lib.ListN.{length}
-use Rattle.graph.specs.declared.Ends.{Ends}
-use Rattle.graph.specs.Ends.{ends_of}
-use Rattle.grid.proofs.LeadLaws.{ends_to, table_to, ends-put, ends-long, ends-room, Bounds, bounds_none, bounds_next, leads-shape, leads-led}
+use Rattle.grid.proofs.LeadLaws.{ends_to, table_to, Bounds}
 use Rattle.grid.proofs.leads.leads_of.Given as goal
 
 abbrev pub invariant-loop-p : goal.invariant-loop-p

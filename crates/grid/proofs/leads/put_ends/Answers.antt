@@ -1,16 +1,13 @@
 -- `leads::put_ends`: after j turns the ends among the first j records are put.
 -- Assumes nothing.
-use Prim.Native.Nat.{ℕ, ◌+◌, ◌-◌, ◌≤◌, ◌<◌}
+use Prim.Native.Nat.{ℕ, ◌+◌, ◌<◌}
 use native.Mathlib.Omega.{arith}
 use mathlib.Core.Path.{◌≡◌, refl, ap, sym, ◌∙◌}
-use mathlib.Core.Logic.{⊎_elim}
 use mathlib.Core.List.{List, ◌++◌}
-use lib.ListN.{length, get_or, take}
+use lib.ListN.{length, get_or}
 use lib.Seq.{sets}
 use Rattle.laws.specs.Lists.{one}
 use Rattle.laws.proofs.Lists.{length-one, sets_append}
-use Rattle.graph.specs.declared.Ends.{Ends}
-use Rattle.graph.specs.Ends.{targets_of}
 use Rattle.order.proofs.Pushed.{targets-own, targets-other}
 use Rattle.grid.proofs.LeadLaws.{targets-more}
 use Rattle.grid.proofs.leads.put_ends.Invariants.{up_to}
@@ -64,12 +61,12 @@ loop-j-preserved c =
     let xs = up_to a c.args.p c.loop-j.j in
     let t = get_or a.to c.loop-j.j 0 in
     elim c.if-e-j.branch [
-      then-e-j w ↦
-        let e = own (goal.at.loop-j-preserved c).At-loop-j c.loop-j-test.true w.if-e-j.true in
-        (search rules, w.to-is ∙ rw (c.loop-j.invariant.1, c.loop-j.invariant.2, e) (sym (sets_append c.args.to.now c.args.k xs (one t))), w.end-is ∙ rw (c.loop-j.invariant.2, e, length-one xs t) (omega arith))
-    | else-e-j w ↦
-        let e = targets-other c.args.p a.owner a.to c.loop-j.j (omega (arith, owner-long (goal.at.loop-j-preserved c).Start)) (omega (arith, to-long (goal.at.loop-j-preserved c).Start)) w.if-e-j.false in
-        (search rules, w.to-is ∙ rw e c.loop-j.invariant.1, w.end-is ∙ rw e c.loop-j.invariant.2)
+      | then-e-j w ↦
+          let e = own (goal.at.loop-j-preserved c).At-loop-j c.loop-j-test.true w.if-e-j.true in
+          (search rules, w.to-is ∙ rw (c.loop-j.invariant.1, c.loop-j.invariant.2, e) (sym (sets_append c.args.to.now c.args.k xs (one t))), w.end-is ∙ rw (c.loop-j.invariant.2, e, length-one xs t) (omega arith))
+      | else-e-j w ↦
+          let e = targets-other c.args.p a.owner a.to c.loop-j.j (omega (arith, owner-long (goal.at.loop-j-preserved c).Start)) (omega (arith, to-long (goal.at.loop-j-preserved c).Start)) w.if-e-j.false in
+          (search rules, w.to-is ∙ rw e c.loop-j.invariant.1, w.end-is ∙ rw e c.loop-j.invariant.2)
     ]
 
 pub overflow_cast-result : goal.overflow_cast-result

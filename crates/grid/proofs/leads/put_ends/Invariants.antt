@@ -1,18 +1,12 @@
 -- `leads::put_ends`: after j turns the ends among the first j records are put.
 -- Assumes nothing.
-use Prim.Native.Nat.{ℕ, ◌+◌, ◌-◌, ◌≤◌, ◌<◌}
-use native.Mathlib.Omega.{arith}
-use mathlib.Core.Path.{◌≡◌, refl, ap, sym, ◌∙◌}
-use mathlib.Core.Logic.{⊎_elim}
-use mathlib.Core.List.{List, ◌++◌}
-use lib.ListN.{length, get_or, take}
+use Prim.Native.Nat.{ℕ, ◌+◌, ◌-◌, ◌≤◌}
+use mathlib.Core.Path.{◌≡◌}
+use mathlib.Core.List.{List}
+use lib.ListN.{length, take}
 use lib.Seq.{sets}
-use Rattle.laws.specs.Lists.{one}
-use Rattle.laws.proofs.Lists.{length-one, sets_append}
 use Rattle.graph.specs.declared.Ends.{Ends}
 use Rattle.graph.specs.Ends.{targets_of}
-use Rattle.order.proofs.Pushed.{targets-own, targets-other}
-use Rattle.grid.proofs.LeadLaws.{targets-more}
 use Rattle.grid.proofs.leads.put_ends.Given as goal
 
 -- the ends among the first j records

@@ -1,8 +1,6 @@
 -- `placing::cells`: by whether the sheet is sound.
 -- Assumes nothing.
-use mathlib.Core.Path.{◌≡◌, sym, ◌∙◌}
-use borrow.Author.Tests.{not-true, not-false}
-use borrow.Author.Rules.{rules}
+use mathlib.Core.Path.{sym, ◌∙◌}
 use Rattle.grid.proofs.placing.cells.Goals as goal
 
 pub returns-then-not-sound : goal.returns-then-not-sound

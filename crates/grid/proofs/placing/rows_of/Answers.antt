@@ -1,10 +1,8 @@
 -- `placing::rows_of`: the invariant says what is found so far, or what is left to look at.
 -- Assumes nothing.
-use Prim.Native.Nat.{◌-◌, ◌≤◌}
 use mathlib.Core.Path.{◌≡◌, refl, ap, sym, ◌∙◌}
 use native.Mathlib.Omega.{arith}
 use borrow.Author.Tests.{lt-ltb, le-ltb}
-use lib.ListN.{take}
 use borrow.Author.Tests.{le-leb, lt-leb}
 use Rattle.laws.specs.Each.{each}
 use Rattle.laws.proofs.Each.{next}

@@ -1,14 +1,9 @@
 -- `placing::rows_of`: the invariant says what is found so far, or what is left to look at.
 -- Assumes nothing.
 use Prim.Native.Nat.{◌-◌, ◌≤◌}
-use mathlib.Core.Path.{◌≡◌, refl, ap, sym, ◌∙◌}
-use native.Mathlib.Omega.{arith}
-use borrow.Author.Tests.{lt-ltb, le-ltb}
-use lib.ListN.{take}
-use borrow.Author.Tests.{le-leb, lt-leb}
+use mathlib.Core.Path.{◌≡◌}
 use Rattle.laws.specs.Each.{each}
-use Rattle.laws.proofs.Each.{next}
-use Rattle.grid.specs.Cells.{no_cells, placed, cells_in}
+use Rattle.grid.specs.Cells.{no_cells, placed}
 use Rattle.grid.proofs.placing.rows_of.Given as goal
 
 abbrev pub invariant-loop-k : goal.invariant-loop-k

@@ -1,9 +1,6 @@
 -- `record::box_near`: each way out rewrites with what led there.
 -- Assumes nothing.
-use Prim.Native.Nat.{◌-◌}
 use mathlib.Core.Path.{sym, ◌∙◌}
-use lib.ListN.{take}
-use borrow.Author.Rules.{rules}
 use Rattle.grid.proofs.record.box_near.Goals as goal
 
 pub returns-then-near : goal.returns-then-near

@@ -1,12 +1,9 @@
 -- `record::box_of`: each way out rewrites with what led there.
 -- Assumes nothing.
-use Prim.Native.Nat.{◌-◌}
 use mathlib.Core.Path.{sym, ◌∙◌}
 use native.Mathlib.Omega.{arith}
-use borrow.Author.Tests.{lt-ltb, le-ltb, not-true, not-false}
-use lib.ListN.{take}
+use borrow.Author.Tests.{lt-ltb, le-ltb}
 use Rattle.grid.proofs.RecordLaws.{sound-room}
-use borrow.Author.Rules.{rules}
 use Rattle.grid.proofs.record.box_of.Goals as goal
 
 pub returns-then-not-sound : goal.returns-then-not-sound

@@ -1,10 +1,6 @@
 -- `record::curve_near`: each way out rewrites with what led there.
 -- Assumes nothing.
-use Prim.Native.Nat.{◌-◌}
 use mathlib.Core.Path.{sym, ◌∙◌}
-use borrow.Author.Tests.{not-true, not-false}
-use lib.ListN.{take}
-use borrow.Author.Rules.{rules}
 use Rattle.grid.proofs.record.curve_near.Goals as goal
 
 pub returns-then-not-near : goal.returns-then-not-near

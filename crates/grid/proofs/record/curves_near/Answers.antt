@@ -1,13 +1,11 @@
 -- `record::curves_near`: the invariant says what is found so far, or what is left to look at.
 -- Assumes nothing.
-use Prim.Native.Nat.{◌-◌, ◌≤◌}
+use Prim.Native.Nat.{◌≤◌}
 use mathlib.Core.Path.{◌≡◌, refl, sym, ◌∙◌}
 use native.Mathlib.Omega.{arith}
-use borrow.Author.Tests.{not-true, not-false}
-use lib.ListN.{length, drop}
+use lib.ListN.{length}
 use Rattle.laws.proofs.Lists.{drop-up, drop_past, mapped_long}
-use Rattle.laws.specs.Bytes.{all_of}
-use Rattle.grid.specs.Record.{curve_near, curves_of, no_curve}
+use Rattle.grid.specs.Record.{no_curve}
 use borrow.Author.Rules.{rules}
 use Rattle.grid.proofs.record.curves_near.Goals as goal
 use Rattle.grid.proofs.record.curves_near.Goals.{Start}

@@ -1,13 +1,10 @@
 -- `record::curves_near`: the invariant says what is found so far, or what is left to look at.
 -- Assumes nothing.
-use Prim.Native.Nat.{◌-◌, ◌≤◌}
-use mathlib.Core.Path.{◌≡◌, refl, sym, ◌∙◌}
-use native.Mathlib.Omega.{arith}
-use borrow.Author.Tests.{not-true, not-false}
-use lib.ListN.{length, drop}
-use Rattle.laws.proofs.Lists.{drop-up, drop_past, mapped_long}
+use Prim.Native.Nat.{◌-◌}
+use mathlib.Core.Path.{◌≡◌}
+use lib.ListN.{drop}
 use Rattle.laws.specs.Bytes.{all_of}
-use Rattle.grid.specs.Record.{curve_near, curves_of, no_curve}
+use Rattle.grid.specs.Record.{curve_near, curves_of}
 use Rattle.grid.proofs.record.curves_near.Given as goal
 
 abbrev pub invariant-loop-k : goal.invariant-loop-k

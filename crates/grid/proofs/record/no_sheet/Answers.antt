@@ -1,7 +1,6 @@
 -- `record::no_sheet`: the empty box stands 48 times.
 -- Assumes nothing.
 
-use borrow.Author.Rules.{rules}
 use Rattle.grid.proofs.record.no_sheet.Goals as goal
 
 pub returns : goal.returns

@@ -1,7 +1,6 @@
 -- `record::refused_box`: its record is the empty one.
 -- Assumes nothing.
 
-use borrow.Author.Rules.{rules}
 use Rattle.grid.proofs.record.refused_box.Goals as goal
 
 pub returns : goal.returns

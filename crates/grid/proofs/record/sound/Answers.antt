@@ -1,12 +1,8 @@
 -- `record::sound`: each way out rewrites with what led there.
 -- Assumes nothing.
-use Prim.Native.Nat.{◌-◌}
 use mathlib.Core.Path.{sym, ◌∙◌}
-use borrow.Author.Tests.{not-true, not-false}
-use lib.ListN.{take}
 use borrow.Author.Tests.{le-leb, lt-leb}
 use Rattle.grid.specs.Record.{sound_of}
-use borrow.Author.Rules.{rules}
 use Rattle.grid.proofs.record.sound.Goals as goal
 
 pub returns-then-s-gt48 : goal.returns-then-s-gt48

@@ -1,6 +1,6 @@
 -- `render_grid::all_curves`: after k turns the curves are those of the first k boxes; within a turn, what is drawn and what is left make up those of box k.
 -- Assumes nothing.
-use Prim.Native.Nat.{ℕ, ◌+◌, ◌-◌, ◌*◌, ◌/◌, ◌<◌, ◌≤◌}
+use Prim.Native.Nat.{ℕ, ◌+◌, ◌*◌, ◌/◌, ◌<◌, ◌≤◌}
 use mathlib.Core.Path.{◌≡◌, refl, ap, sym, ◌∙◌}
 use mathlib.Core.List.{[], ◌∷◌}
 use native.Mathlib.Omega.{arith}
@@ -78,9 +78,9 @@ drawn : (c : Joined-found) → c.match-found.all
     c.run_at-into.result.y)
 drawn c =
     elim c.match-found.branch [
-      in-At+then-at-lt88 w ↦ w.all-is ∙ rw (w.in-At.is, lt-ltb _ _ w.if-at-lt88.true)
-    | in-At+else-at-lt88 w ↦ w.all-is ∙ rw (w.in-At.is, le-ltb _ _ w.if-at-lt88.false)
-    | in_default w ↦ w.all-is ∙ rw w.in_default.is
+      | in-At+then-at-lt88 w ↦ w.all-is ∙ rw (w.in-At.is, lt-ltb _ _ w.if-at-lt88.true)
+      | in-At+else-at-lt88 w ↦ w.all-is ∙ rw (w.in-At.is, le-ltb _ _ w.if-at-lt88.false)
+      | in_default w ↦ w.all-is ∙ rw w.in_default.is
     ]
 
 pub loop-k-init : goal.loop-k-init

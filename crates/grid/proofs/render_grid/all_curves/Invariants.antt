@@ -1,26 +1,12 @@
 -- `render_grid::all_curves`: after k turns the curves are those of the first k boxes; within a turn, what is drawn and what is left make up those of box k.
 -- Assumes nothing.
-use Prim.Native.Nat.{ℕ, ◌+◌, ◌-◌, ◌*◌, ◌/◌, ◌<◌, ◌≤◌}
-use mathlib.Core.Path.{◌≡◌, refl, ap, sym, ◌∙◌}
-use mathlib.Core.Logic.{⊎_elim}
-use mathlib.Core.List.{[], ◌∷◌}
-use native.Mathlib.Omega.{arith}
-use borrow.Author.Tests.{lt-ltb, le-ltb}
-use lib.ListN.{length, drop, get_or}
+use Prim.Native.Nat.{◌+◌, ◌-◌, ◌*◌, ◌≤◌}
+use mathlib.Core.Path.{◌≡◌}
+use lib.ListN.{drop}
 use Rattle.laws.specs.Each.{each}
-use Rattle.laws.proofs.Each.{next}
-use Rattle.laws.proofs.Lists.{mapped_long}
-use Rattle.graph.specs.declared.Item.{Item}
-use Rattle.graph.specs.code.Tables.{owned, items_of, edge_of, mark_of}
-use Rattle.graph.specs.Outcome.{no_item}
-use Rattle.grid.specs.declared.render_node.Run.{Run}
-use Rattle.grid.specs.declared.render_grid.Found.{Found}
-use Rattle.grid.specs.RenderNode.{Input, inputs_at, end_width}
-use Rattle.grid.specs.Curves.{output_for, curve_if}
-use Rattle.grid.specs.code.Laid.{run_at, Low, laid_inputs, laid_outputs, curve_of, add_all, no_curves, curves_over, curves_at}
-use Rattle.grid.proofs.Arrays.{own-up, other-up, none_left, all-take-at}
-use Rattle.grid.proofs.CurveLaws.{curve-is, add-join, add-few}
-use Rattle.grid.proofs.LaidLaws.{run-low}
+use Rattle.graph.specs.code.Tables.{owned, items_of}
+use Rattle.grid.specs.RenderNode.{inputs_at}
+use Rattle.grid.specs.code.Laid.{run_at, laid_inputs, add_all, no_curves, curves_over, curves_at}
 use Rattle.grid.proofs.render_grid.all_curves.Given as goal
 
 abbrev pub invariant-loop-j : goal.invariant-loop-j

@@ -1,15 +1,10 @@
 -- `render_grid::extent`: from the last box down, the largest of those that are passed.
 -- Assumes nothing.
-use Prim.Native.Nat.{ℕ, ◌+◌, ◌-◌, ◌*◌, ◌≤◌, ◌<◌}
-use mathlib.Core.Path.{◌≡◌, refl, ap, ◌∙◌}
-use mathlib.Core.List.{◌∷◌}
-use native.Mathlib.Omega.{arith}
-use borrow.Author.Tests.{eq-eqb, ne_eqb}
+use Prim.Native.Nat.{◌+◌, ◌-◌, ◌*◌, ◌≤◌}
+use mathlib.Core.Path.{◌≡◌}
 use lib.ListN.{drop, take, get_or}
 use Rattle.laws.specs.Lists.{tabulate}
-use Rattle.laws.proofs.Lists.{drop-down, drop-end}
 use Rattle.grid.specs.RenderGrid.{extent as extent_of}
-use Rattle.grid.proofs.Noted.{tabulate-down}
 use Rattle.grid.proofs.render_grid.extent.Given as goal
 
 abbrev pub invariant-loop-k : goal.invariant-loop-k

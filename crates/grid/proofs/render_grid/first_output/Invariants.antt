@@ -1,19 +1,12 @@
 -- `render_grid::first_output`: the invariant says what is found so far, or what is left to look at.
 -- Assumes nothing.
-use Prim.Native.Nat.{ℕ, ◌+◌, ◌-◌, ◌*◌, ◌<◌, ◌≤◌}
-use mathlib.Core.Path.{◌≡◌, refl, ap}
-use mathlib.Core.List.{[], ◌∷◌, map}
-use native.Mathlib.Omega.{arith}
-use borrow.Author.Tests.{eq-eqb, ne_eqb}
-use lib.ListN.{length, drop, take, get_or}
-use Rattle.laws.proofs.Lists.{mapped_long}
-use Rattle.grid.proofs.Arrays.{own-up, other-up, none_left}
-use Rattle.graph.specs.declared.Item.{Item}
-use Rattle.graph.specs.code.Tables.{owned, items_of, edge_of}
-use Rattle.graph.specs.Outcome.{no_item}
+use Prim.Native.Nat.{◌+◌, ◌-◌, ◌*◌, ◌≤◌}
+use mathlib.Core.Path.{◌≡◌}
+use lib.ListN.{drop}
+use Rattle.graph.specs.code.Tables.{owned, items_of}
 use Rattle.grid.specs.RenderNode.{outputs_at}
 use Rattle.grid.specs.Curves.{first_to}
-use Rattle.grid.specs.code.Laid.{laid_outputs, found_of}
+use Rattle.grid.specs.code.Laid.{laid_outputs}
 use Rattle.grid.proofs.render_grid.first_output.Given as goal
 
 abbrev pub invariant-loop-j : goal.invariant-loop-j

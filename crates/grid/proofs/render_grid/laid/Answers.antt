@@ -12,7 +12,6 @@ use Rattle.grid.specs.Lists.{largest}
 use Rattle.grid.specs.code.Rendered.{Noted, AllModest, Seated}
 use Rattle.grid.specs.code.Laid.{Bounded, sizes_in, Movable, begins_to}
 use Rattle.grid.proofs.SheetLaws.{Begun, begun, begun_le, small-widths, small-heights, last-column, last_row, inputs-move, outputs-move, laid-is}
-use borrow.Author.Rules.{rules}
 use Rattle.grid.proofs.render_grid.laid.Goals as goal
 use Rattle.grid.proofs.render_grid.laid.Goals.{After-largest_of-last_row}
 

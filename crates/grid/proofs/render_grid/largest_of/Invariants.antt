@@ -1,10 +1,8 @@
 -- `render_grid::largest_of`: from the last down, the largest of those that are passed.
 -- Assumes nothing.
-use Prim.Native.Nat.{ℕ, ◌≤◌}
-use mathlib.Core.Path.{◌≡◌, refl, ap, ◌∙◌}
-use native.Mathlib.Omega.{arith}
+use Prim.Native.Nat.{◌≤◌}
+use mathlib.Core.Path.{◌≡◌}
 use lib.ListN.{drop, take}
-use Rattle.laws.proofs.Lists.{drop-down, drop-end}
 use Rattle.grid.specs.Lists.{largest}
 use Rattle.grid.proofs.render_grid.largest_of.Given as goal
 

@@ -1,14 +1,10 @@
 -- `render_grid::line_begins`: each turn stores where the next line begins.
 -- Assumes nothing.
 use Prim.Native.Nat.{◌+◌, ◌-◌, ◌*◌, ◌≤◌}
-use mathlib.Core.Path.{◌≡◌, refl, ap, sym, ◌∙◌}
-use native.Mathlib.Omega.{arith}
-use native.Mathlib.Numerals.{add-one}
+use mathlib.Core.Path.{◌≡◌}
 use lib.ListN.{take}
-use Rattle.grid.specs.RenderGrid.{begins, extent as extent_of}
+use Rattle.grid.specs.RenderGrid.{begins}
 use Rattle.grid.specs.code.Laid.{sizes_in, begins_to}
-use Rattle.grid.proofs.Arrays.{filled_next}
-use Rattle.grid.proofs.LaidLaws.{extent_le}
 use Rattle.grid.proofs.render_grid.line_begins.Given as goal
 
 abbrev pub invariant-loop-c : goal.invariant-loop-c

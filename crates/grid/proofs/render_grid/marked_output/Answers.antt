@@ -1,18 +1,16 @@
 -- `render_grid::marked_output`: the invariant says what is found so far, or what is left to look at.
 -- Assumes nothing.
-use Prim.Native.Nat.{ℕ, ◌+◌, ◌-◌, ◌*◌, ◌<◌, ◌≤◌}
+use Prim.Native.Nat.{ℕ, ◌+◌, ◌<◌, ◌≤◌}
 use mathlib.Core.Path.{◌≡◌, refl, ap, sym, ◌∙◌}
-use mathlib.Core.List.{[], ◌∷◌, map}
+use mathlib.Core.List.{[], ◌∷◌}
 use native.Mathlib.Omega.{arith}
-use lib.ListN.{length, drop, take, get_or}
+use lib.ListN.{length, drop, get_or}
 use Rattle.laws.proofs.Lists.{mapped_long}
 use Rattle.grid.proofs.Arrays.{own-up, other-up, none_left}
 use Rattle.graph.specs.declared.Item.{Item}
 use Rattle.graph.specs.code.Tables.{owned, items_of, edge_of}
 use Rattle.graph.specs.Outcome.{no_item}
-use Rattle.grid.specs.RenderNode.{outputs_at}
-use Rattle.grid.specs.Curves.{output_at}
-use Rattle.grid.specs.code.Laid.{laid_outputs, found_of}
+use Rattle.grid.specs.code.Laid.{found_of}
 use Rattle.grid.proofs.CurveLaws.{marked_next}
 use borrow.Author.Rules.{rules}
 use Rattle.grid.proofs.render_grid.marked_output.Goals as goal

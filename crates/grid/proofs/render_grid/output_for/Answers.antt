@@ -1,9 +1,6 @@
 -- `render_grid::output_for`: each way out rewrites with what led there.
 -- Assumes nothing.
-use Prim.Native.Nat.{◌-◌}
-use lib.ListN.{take}
 use Rattle.grid.proofs.CurveLaws.{marked_for}
-use borrow.Author.Rules.{rules}
 use Rattle.grid.proofs.render_grid.output_for.Goals as goal
 
 pub returns-then-mark-eq0 : goal.returns-then-mark-eq0

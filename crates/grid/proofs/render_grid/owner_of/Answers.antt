@@ -1,7 +1,6 @@
 -- `render_grid::owner_of`: each way out rewrites with what led there.
 -- Assumes nothing.
 use borrow.Author.Tests.{eq-eqb, ne_eqb, lt-ltb, le-ltb}
-use borrow.Author.Rules.{rules}
 use Rattle.grid.proofs.render_grid.owner_of.Goals as goal
 
 pub returns-then-name-eq512 : goal.returns-then-name-eq512

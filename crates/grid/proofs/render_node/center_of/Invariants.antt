@@ -1,21 +1,15 @@
 -- `render_node::center_of`: counts down from the number line, so that it meets the lines in the order of the definition.
 -- Assumes nothing.
-use Prim.Native.Nat.{ℕ, ◌+◌, ◌-◌, ◌≤◌}
-use mathlib.Core.Path.{◌≡◌, refl, ap}
+use Prim.Native.Nat.{ℕ, ◌+◌, ◌≤◌}
+use mathlib.Core.Path.{◌≡◌}
 use mathlib.Core.List.{List, map, ◌++◌}
-use native.Mathlib.Omega.{arith}
 use lib.ListN.{length, drop}
-use Rattle.laws.proofs.Lists.{mapped_long}
-use Rattle.grid.proofs.Arrays.{own-down, other-down, none_left}
-use Rattle.chart.specs.declared.Line.{Line as LineItem}
 use Rattle.chart.specs.declared.Lines.{Lines}
-use Rattle.chart.specs.Tables.{no_line}
-use Rattle.chart.specs.code.Filled.{owned_lines, lines_of, part_of}
+use Rattle.chart.specs.code.Filled.{owned_lines, lines_of}
 use Rattle.graph.specs.Graph.{Line, given}
 use Rattle.graph.specs.code.Tables.{number_line}
 use Rattle.grid.specs.Lists.{largest}
 use Rattle.grid.specs.RenderNode.{line_length}
-use Rattle.grid.proofs.NodeLaws.{number_short}
 use Rattle.grid.proofs.render_node.center_of.Given as goal
 
 abbrev pub left : Lines → ℕ → ℕ → ℕ → List Line

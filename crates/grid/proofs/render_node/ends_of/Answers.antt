@@ -1,19 +1,14 @@
 -- `render_node::ends_of`: counts down, so that it meets the records in the order of the definition.
 -- Assumes nothing.
-use Prim.Native.Nat.{ℕ, ◌+◌, ◌-◌, ◌*◌, ◌≤◌}
-use mathlib.Core.Path.{◌≡◌, refl, ap}
-use mathlib.Core.List.{List, map}
+use Prim.Native.Nat.{◌≤◌}
+use mathlib.Core.Path.{◌≡◌, refl}
 use native.Mathlib.Omega.{arith}
-use lib.ListN.{length, drop}
+use lib.ListN.{length}
 use Rattle.laws.proofs.Lists.{mapped_long}
 use Rattle.grid.proofs.Arrays.{own-down, other-down, none_left}
 use Rattle.graph.specs.declared.Item.{Item}
-use Rattle.graph.specs.declared.Table.{Table}
-use Rattle.graph.specs.Graph.{Edge}
-use Rattle.graph.specs.code.Tables.{owned, items_of, edge_of}
+use Rattle.graph.specs.code.Tables.{edge_of}
 use Rattle.graph.specs.Outcome.{no_item}
-use Rattle.grid.specs.Lists.{total}
-use Rattle.grid.specs.RenderNode.{text_length}
 use borrow.Author.Rules.{rules}
 use Rattle.grid.proofs.render_node.ends_of.Goals as goal
 use Rattle.grid.proofs.render_node.ends_of.Goals.{Start}

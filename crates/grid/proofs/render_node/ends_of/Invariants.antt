@@ -1,17 +1,12 @@
 -- `render_node::ends_of`: counts down, so that it meets the records in the order of the definition.
 -- Assumes nothing.
-use Prim.Native.Nat.{ℕ, ◌+◌, ◌-◌, ◌*◌, ◌≤◌}
-use mathlib.Core.Path.{◌≡◌, refl, ap}
+use Prim.Native.Nat.{ℕ, ◌+◌, ◌*◌, ◌≤◌}
+use mathlib.Core.Path.{◌≡◌}
 use mathlib.Core.List.{List, map}
-use native.Mathlib.Omega.{arith}
 use lib.ListN.{length, drop}
-use Rattle.laws.proofs.Lists.{mapped_long}
-use Rattle.grid.proofs.Arrays.{own-down, other-down, none_left}
-use Rattle.graph.specs.declared.Item.{Item}
 use Rattle.graph.specs.declared.Table.{Table}
 use Rattle.graph.specs.Graph.{Edge}
-use Rattle.graph.specs.code.Tables.{owned, items_of, edge_of}
-use Rattle.graph.specs.Outcome.{no_item}
+use Rattle.graph.specs.code.Tables.{owned, items_of}
 use Rattle.grid.specs.Lists.{total}
 use Rattle.grid.specs.RenderNode.{text_length}
 use Rattle.grid.proofs.render_node.ends_of.Given as goal

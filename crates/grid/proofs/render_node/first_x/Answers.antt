@@ -1,7 +1,6 @@
 -- `render_node::first_x`: each way out rewrites with what led there.
 -- Assumes nothing.
 use borrow.Author.Tests.{eq-eqb, ne_eqb}
-use borrow.Author.Rules.{rules}
 use Rattle.grid.proofs.render_node.first_x.Goals as goal
 
 pub returns-then-count-eq1 : goal.returns-then-count-eq1

@@ -3,7 +3,6 @@
 use Prim.Native.Nat.{◌-◌, ◌≤◌, ◌<◌}
 use native.Mathlib.Omega.{arith}
 use borrow.Author.Tests.{eq-eqb, ne_eqb, lt-ltb, le-ltb}
-use borrow.Author.Rules.{rules}
 use Rattle.grid.proofs.render_node.number_line.Goals as goal
 
 pub returns-then-name-eq512 : goal.returns-then-name-eq512

@@ -1,17 +1,10 @@
 -- `render_node::render_nodes`: each turn notes the next node.
 -- Assumes nothing.
-use Prim.Native.Nat.{ℕ, ◌+◌, ◌-◌, ◌*◌, ◌≤◌}
-use mathlib.Core.Path.{◌≡◌, ap, sym, ◌∙◌, subst}
-use native.Mathlib.Omega.{arith}
-use borrow.Author.Count.{below_none, below_more}
+use Prim.Native.Nat.{◌-◌, ◌≤◌}
+use mathlib.Core.Path.{◌≡◌}
 use lib.ListN.{length}
-use lib.Seq.{sets, length-sets}
-use Rattle.graph.specs.Graph.{node_at}
 use Rattle.graph.specs.code.Tables.{graph_of}
-use Rattle.grid.specs.declared.render_node.RenderNode.{RenderNode}
-use Rattle.grid.specs.code.Rendered.{render_of, Modest, AllModest, numbers_of, Noted}
-use Rattle.grid.proofs.NodeLaws.{rendered_is}
-use Rattle.grid.proofs.Noted.{noted_none, noted_next}
+use Rattle.grid.specs.code.Rendered.{AllModest, Noted}
 use Rattle.grid.proofs.render_node.render_nodes.Given as goal
 
 abbrev pub invariant-loop-p : goal.invariant-loop-p

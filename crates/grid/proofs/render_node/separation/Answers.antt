@@ -1,7 +1,6 @@
 -- `render_node::separation`: each way out rewrites with what led there.
 -- Assumes nothing.
 use borrow.Author.Tests.{lt-ltb, le-ltb}
-use borrow.Author.Rules.{rules}
 use Rattle.grid.proofs.render_node.separation.Goals as goal
 
 pub returns-then-count-lt2 : goal.returns-then-count-lt2

@@ -1,7 +1,6 @@
 -- `render_node::text_height`: each way out rewrites with what led there.
 -- Assumes nothing.
 use borrow.Author.Tests.{lt-ltb, le-ltb}
-use borrow.Author.Rules.{rules}
 use Rattle.grid.proofs.render_node.text_height.Goals as goal
 
 pub returns-then-len-gt0 : goal.returns-then-len-gt0

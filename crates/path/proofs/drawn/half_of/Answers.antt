@@ -2,7 +2,6 @@
 use mathlib.Core.Path.{ap, ◌∙◌}
 use native.Mathlib.Omega.{arith}
 use Rattle.path.specs.Halves.{halves}
-use borrow.Author.Rules.{rules}
 use Rattle.path.proofs.drawn.half_of.Goals as goal
 
 pub returns : goal.returns

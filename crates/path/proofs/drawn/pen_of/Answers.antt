@@ -1,6 +1,5 @@
 -- `drawn::pen_of` meets its contract. Assumes nothing.
 
-use borrow.Author.Rules.{rules}
 use Rattle.path.proofs.drawn.pen_of.Goals as goal
 
 pub returns : goal.returns

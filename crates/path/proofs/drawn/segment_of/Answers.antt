@@ -1,7 +1,6 @@
 -- `drawn::segment_of` meets its contract. Assumes nothing.
 use Rattle.path.specs.Drawn.{InRange}
 use mathlib.Core.Path.{subst}
-use borrow.Author.Rules.{rules}
 use Rattle.path.proofs.drawn.segment_of.Goals as goal
 
 pub pen_of-requires : goal.pen_of-requires

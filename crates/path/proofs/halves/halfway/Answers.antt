@@ -1,7 +1,6 @@
 -- `halves::halfway` meets its contract: neither the sum nor the half is rounded (`halfway-at`). Assumes nothing.
 use native.Mathlib.Omega.{arith}
 use Rattle.path.proofs.Exact.{castable, halfway_at}
-use borrow.Author.Rules.{rules}
 use Rattle.path.proofs.halves.halfway.Goals as goal
 
 pub int_to_float-x : goal.int_to_float-x

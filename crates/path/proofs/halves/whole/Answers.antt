@@ -1,7 +1,6 @@
 -- `halves::whole` meets its contract. Assumes nothing.
 use native.Mathlib.Omega.{arith}
 use Rattle.path.proofs.Exact.{castable, of_int_lem}
-use borrow.Author.Rules.{rules}
 use Rattle.path.proofs.halves.whole.Goals as goal
 
 pub int_to_float-result : goal.int_to_float-result

@@ -2,7 +2,6 @@
 -- Assumes nothing.
 use lib.ListN.{get_or, get_or-eq_default}
 use Rattle.path.proofs.Labels.{sign-bytes, other-bytes}
-use borrow.Author.Rules.{rules}
 use Rattle.path.proofs.label.character_bytes.Goals as goal
 
 pub returns-then-chart-at : goal.returns-then-chart-at

@@ -1,6 +1,5 @@
 -- `label::digit_of` meets its contract: each way out rewrites with what led there. Assumes nothing.
 use borrow.Author.Tests.{eq-eqb, ne_eqb}
-use borrow.Author.Rules.{rules}
 use Rattle.path.proofs.label.digit_of.Goals as goal
 
 pub returns-then-after-eq0 : goal.returns-then-after-eq0

@@ -1,6 +1,5 @@
 -- `label::invalid_byte` meets its contract: the text, computed. Assumes nothing.
 use mathlib.Core.Path.{refl}
-use borrow.Author.Rules.{rules}
 use Rattle.path.proofs.label.invalid_byte.Goals as goal
 
 pub returns : goal.returns

@@ -1,11 +1,10 @@
 -- `label::is_stand_ins` meets its contract: after j turns the table begins with the first j texts. Assumes nothing.
-use Prim.Native.Nat.{ℕ, ◌-◌, ◌≤◌, ◌<◌}
+use Prim.Native.Nat.{ℕ, ◌-◌, ◌<◌}
 use native.Mathlib.Omega.{arith}
 use mathlib.Core.Path.{◌≡◌, refl, sym, ap, ◌∙◌}
 use mathlib.Core.Bool.{Bool}
 use mathlib.Core.List.{List}
 use lib.ListN.{length, take, drop}
-use borrow.Author.Tests.{not-true, not-false}
 use Rattle.laws.specs.Bytes.{same}
 use Rattle.path.specs.declared.label.Span.{Span}
 use Rattle.laws.proofs.Lists.{same_not}

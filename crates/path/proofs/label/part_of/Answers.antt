@@ -1,7 +1,6 @@
 -- `label::part_of` meets its contract: each return rewrites with the tests that led there, and the pointer and the list are then equal by `refl`. Assumes nothing.
 use mathlib.Core.Path.{refl}
 use borrow.Author.Tests.{le-leb, lt-leb}
-use borrow.Author.Rules.{rules}
 use Rattle.path.proofs.label.part_of.Goals as goal
 
 pub returns-then-end-at : goal.returns-then-end-at

@@ -1,6 +1,5 @@
 -- `label::places_of` meets its contract: each way out rewrites with what led there. Assumes nothing.
 use borrow.Author.Tests.{lt-ltb, le-ltb}
-use borrow.Author.Rules.{rules}
 use Rattle.path.proofs.label.places_of.Goals as goal
 
 pub returns-then-v-lt10 : goal.returns-then-v-lt10

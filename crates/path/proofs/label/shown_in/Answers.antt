@@ -1,6 +1,5 @@
 -- `label::shown_in` meets its contract: each way out rewrites with what led there. Assumes nothing.
 use borrow.Author.Tests.{lt-ltb, le-ltb}
-use borrow.Author.Rules.{rules}
 use Rattle.path.proofs.label.shown_in.Goals as goal
 
 pub returns-then-j-lt32 : goal.returns-then-j-lt32

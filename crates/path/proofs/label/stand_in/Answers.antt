@@ -4,7 +4,6 @@ use Prim.Native.Nat.{◌+◌, ◌-◌, ◌*◌}
 use native.Mathlib.Omega.{arith}
 use borrow.Author.Tests.{lt-ltb, le-ltb}
 use Rattle.path.proofs.Labels.{span-is}
-use borrow.Author.Rules.{rules}
 use Rattle.path.proofs.label.stand_in.Goals as goal
 
 pub returns-then-n-lt10 : goal.returns-then-n-lt10

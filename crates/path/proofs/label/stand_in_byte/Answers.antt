@@ -7,7 +7,6 @@ use borrow.Author.Tests.{eq-eqb, ne_eqb, lt-ltb, le-ltb}
 use Rattle.laws.specs.Bytes.{ascii}
 use Rattle.path.specs.code.StandIns.{shown_in, places_of, digit_of}
 use Rattle.path.proofs.Labels.{byte_of, byte_is, byte_low}
-use borrow.Author.Rules.{rules}
 use Rattle.path.proofs.label.stand_in_byte.Goals as goal
 
 pub returns-then-i-eq0 : goal.returns-then-i-eq0

@@ -1,9 +1,6 @@
 -- `label::stands_at` meets its contract: after i turns the first i bytes are those of the text. Assumes nothing.
-use Prim.Native.Nat.{◌-◌, ◌≤◌}
 use native.Mathlib.Omega.{arith}
 use mathlib.Core.Path.{◌≡◌, refl, sym, ◌∙◌}
-use lib.ListN.{take, drop}
-use Rattle.path.specs.Label.{stand_in}
 use Rattle.path.proofs.Labels.{stand_in_short, text-next, text_not, text_same}
 use borrow.Author.Rules.{rules}
 use Rattle.path.proofs.label.stands_at.Goals as goal

@@ -1,10 +1,8 @@
 -- `label::stands_at` meets its contract: after i turns the first i bytes are those of the text. Assumes nothing.
 use Prim.Native.Nat.{◌-◌, ◌≤◌}
-use native.Mathlib.Omega.{arith}
-use mathlib.Core.Path.{◌≡◌, refl, sym, ◌∙◌}
+use mathlib.Core.Path.{◌≡◌}
 use lib.ListN.{take, drop}
 use Rattle.path.specs.Label.{stand_in}
-use Rattle.path.proofs.Labels.{stand_in_short, text-next, text_not, text_same}
 use Rattle.path.proofs.label.stands_at.Given as goal
 
 abbrev pub invariant-loop-i : goal.invariant-loop-i

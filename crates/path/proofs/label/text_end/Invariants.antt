@@ -1,11 +1,8 @@
 -- `label::text_end`: what is left ends where the whole does.
 -- Assumes nothing.
 use Prim.Native.Nat.{◌+◌, ◌*◌, ◌≤◌}
-use mathlib.Core.Path.{◌≡◌, refl, sym, ◌∙◌}
-use native.Mathlib.Omega.{arith}
-use lib.ListN.{get_or}
+use mathlib.Core.Path.{◌≡◌}
 use Rattle.chart.specs.Text.{ending}
-use Rattle.path.proofs.Labels.{ending-next, ending-none, bytes_most}
 use Rattle.path.proofs.label.text_end.Given as goal
 
 abbrev pub invariant-loop-left : goal.invariant-loop-left

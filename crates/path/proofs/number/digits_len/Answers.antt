@@ -2,7 +2,6 @@
 use mathlib.Core.Path.{sym}
 use native.Mathlib.Omega.{arith}
 use Rattle.path.proofs.Numbers.{length-one, length_from}
-use borrow.Author.Rules.{rules}
 use Rattle.path.proofs.number.digits_len.Goals as goal
 
 pub returns-then-n-lt10 : goal.returns-then-n-lt10

@@ -3,7 +3,6 @@ use mathlib.Core.Path.{sym, ◌∙◌}
 use Prim.Native.Nat.{◌/◌}
 use native.Mathlib.Omega.{arith}
 use Rattle.path.proofs.Numbers.{length-even, length_odd, length_bound}
-use borrow.Author.Rules.{rules}
 use Rattle.path.proofs.number.number_len.Goals as goal
 
 pub returns-then-h-eq0 : goal.returns-then-h-eq0

@@ -3,9 +3,8 @@ use mathlib.Core.Path.{◌≡◌, ap, ◌∙◌}
 use Prim.Native.Nat.{ℕ, ◌+◌, ◌-◌, ◌*◌, ◌/◌, ◌%◌}
 use native.Mathlib.Nat.{div-lt_self}
 use native.Mathlib.Omega.{arith}
-use lib.ListN.{length, length-set}
-use Rattle.path.proofs.Tails.{Tail, tail-starts, tail-long, tail-room, tail-fits, tail_more, tail-ends, tail-here}
-use borrow.Author.Rules.{rules}
+use lib.ListN.{length-set}
+use Rattle.path.proofs.Tails.{tail-starts, tail-long, tail-room, tail-fits, tail_more, tail-ends, tail-here}
 use Rattle.path.proofs.number.put_digits.Goals as goal
 
 pub loop-m-init : goal.loop-m-init

@@ -1,9 +1,8 @@
 -- `number::put_number` meets its contract: `.5` after the digits, or not. Assumes nothing.
 use native.Mathlib.Omega.{arith}
-use lib.ListN.{length, length-set}
+use lib.ListN.{length-set}
 use Rattle.path.proofs.Numbers.{length_digits, length_odd}
 use Rattle.path.proofs.Puts.{put-even, put_odd}
-use borrow.Author.Rules.{rules}
 use Rattle.path.proofs.number.put_number.Goals as goal
 
 pub put_digits-e-requires : goal.put_digits-e-requires

@@ -1,6 +1,5 @@
 -- `pass::drawn_six` meets its contract. Assumes nothing.
 use borrow.Author.Tests.{eq-eqb, ne_eqb}
-use borrow.Author.Rules.{rules}
 use Rattle.path.proofs.pass.drawn_six.Goals as goal
 
 pub returns-then-b-eq77 : goal.returns-then-b-eq77

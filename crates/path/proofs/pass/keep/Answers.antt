@@ -1,6 +1,5 @@
 -- `pass::keep` meets its contract: each arm is given what the act is. Assumes nothing.
 
-use borrow.Author.Rules.{rules}
 use Rattle.path.proofs.pass.keep.Goals as goal
 
 pub returns-in-Letter : goal.returns-in-Letter

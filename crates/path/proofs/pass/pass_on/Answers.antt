@@ -1,11 +1,10 @@
 -- `pass::pass_on` meets its contract: segment k is the one with k begun before it. Assumes nothing.
 use mathlib.Core.Path.{◌≡◌}
-use Prim.Native.Nat.{◌+◌, ◌-◌}
+use Prim.Native.Nat.{◌+◌}
 use native.Mathlib.Omega.{arith}
 use Rattle.path.specs.code.Pass.{begins}
 use Rattle.path.proofs.Passes.{begins-small}
 use borrow.Author.Tests.{eq-eqb, ne_eqb}
-use borrow.Author.Rules.{rules}
 use Rattle.path.proofs.pass.pass_on.Goals as goal
 
 pub overflow_add-n : goal.overflow_add-n

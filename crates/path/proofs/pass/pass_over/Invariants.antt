@@ -1,8 +1,6 @@
 -- `pass::pass_over` meets its contract: after i turns the pass is `passTo` i. Assumes nothing.
-use Rattle.path.proofs.Passes.{turn_count, turn_value, turn_next}
-use mathlib.Core.Path.{◌≡◌, ap, ◌∙◌}
+use mathlib.Core.Path.{◌≡◌}
 use Prim.Native.Nat.{◌-◌, ◌≤◌}
-use native.Mathlib.Omega.{arith}
 use lib.ListN.{length}
 use Rattle.path.specs.code.Pass.{pass_to}
 use Rattle.path.proofs.pass.pass_over.Given as goal

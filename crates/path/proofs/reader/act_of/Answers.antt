@@ -1,6 +1,5 @@
 -- `reader::act_of` meets its contract: each arm is given what the phase is. Assumes nothing.
 
-use borrow.Author.Rules.{rules}
 use Rattle.path.proofs.reader.act_of.Goals as goal
 
 pub returns-in-Begin : goal.returns-in-Begin

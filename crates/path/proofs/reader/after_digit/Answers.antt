@@ -1,6 +1,5 @@
 -- `reader::after_digit` meets its contract. Assumes nothing.
 use borrow.Author.Tests.{eq-eqb, ne_eqb}
-use borrow.Author.Rules.{rules}
 use Rattle.path.proofs.reader.after_digit.Goals as goal
 
 pub returns-then-b-eq46 : goal.returns-then-b-eq46

@@ -1,6 +1,5 @@
 -- `reader::arity_of` meets its contract. Assumes nothing.
 use borrow.Author.Tests.{eq-eqb, ne_eqb}
-use borrow.Author.Rules.{rules}
 use Rattle.path.proofs.reader.arity_of.Goals as goal
 
 pub returns-then-b-eq67 : goal.returns-then-b-eq67

@@ -1,6 +1,5 @@
 -- `reader::at_half` meets its contract. Assumes nothing.
 
-use borrow.Author.Rules.{rules}
 use Rattle.path.proofs.reader.at_half.Goals as goal
 
 pub returns : goal.returns

@@ -1,6 +1,5 @@
 -- `reader::at_letter` meets its contract. Assumes nothing.
 use mathlib.Core.Path.{sym}
-use borrow.Author.Rules.{rules}
 use Rattle.path.proofs.reader.at_letter.Goals as goal
 
 pub returns-then-is_begin : goal.returns-then-is_begin

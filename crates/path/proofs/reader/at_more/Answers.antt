@@ -1,6 +1,5 @@
 -- `reader::at_more` meets its contract. Assumes nothing.
 
-use borrow.Author.Rules.{rules}
 use Rattle.path.proofs.reader.at_more.Goals as goal
 
 pub returns : goal.returns

@@ -1,6 +1,5 @@
 -- `reader::at_space` meets its contract. Assumes nothing.
 use borrow.Author.Tests.{eq-eqb, ne_eqb}
-use borrow.Author.Rules.{rules}
 use Rattle.path.proofs.reader.at_space.Goals as goal
 
 pub returns-then-s-eq0 : goal.returns-then-s-eq0

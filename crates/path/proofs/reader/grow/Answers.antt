@@ -1,6 +1,5 @@
 -- `reader::grow` meets its contract. Assumes nothing.
 use borrow.Author.Tests.{le-leb, lt-leb}
-use borrow.Author.Rules.{rules}
 use Rattle.path.proofs.reader.grow.Goals as goal
 
 pub returns-then-v-le8388608 : goal.returns-then-v-le8388608

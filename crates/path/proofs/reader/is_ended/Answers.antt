@@ -1,6 +1,5 @@
 -- `reader::is_ended` meets its contract. Assumes nothing.
 
-use borrow.Author.Rules.{rules}
 use Rattle.path.proofs.reader.is_ended.Goals as goal
 
 pub returns-in-Lettered : goal.returns-in-Lettered

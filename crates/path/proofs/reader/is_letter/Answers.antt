@@ -1,6 +1,5 @@
 -- `reader::is_letter` meets its contract. Assumes nothing.
 use borrow.Author.Tests.{eq-eqb, ne_eqb}
-use borrow.Author.Rules.{rules}
 use Rattle.path.proofs.reader.is_letter.Goals as goal
 
 pub returns-then-b-eq77 : goal.returns-then-b-eq77

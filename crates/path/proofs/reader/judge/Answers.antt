@@ -1,7 +1,5 @@
 -- `reader::judge` meets its contract: each return rewrites with the tests that led there. Assumes nothing.
-use borrow.Author.Tests.{not-true, not-false}
 use mathlib.Core.Path.{sym}
-use borrow.Author.Rules.{rules}
 use Rattle.path.proofs.reader.judge.Goals as goal
 
 pub returns-then-stopped : goal.returns-then-stopped

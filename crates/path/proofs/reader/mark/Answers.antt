@@ -1,6 +1,5 @@
 -- `reader::mark` meets its contract: by `Steps`. Assumes nothing.
 use Rattle.path.proofs.Steps.{mark-again, mark-first, mark-none}
-use borrow.Author.Rules.{rules}
 use Rattle.path.proofs.reader.mark.Goals as goal
 
 pub returns-then-s : goal.returns-then-s

@@ -1,6 +1,5 @@
 -- `reader::move_on` meets its contract: each arm is given what the act is. Assumes nothing.
 
-use borrow.Author.Rules.{rules}
 use Rattle.path.proofs.reader.move_on.Goals as goal
 
 pub returns-in-Letter : goal.returns-in-Letter

@@ -1,7 +1,6 @@
 -- `reader::on_first` meets its contract. Assumes nothing.
 use mathlib.Core.Path.{sym, ◌∙◌}
 use Rattle.path.proofs.Readings.{digit_low}
-use borrow.Author.Rules.{rules}
 use Rattle.path.proofs.reader.on_first.Goals as goal
 
 pub overflow_sub-result : goal.overflow_sub-result

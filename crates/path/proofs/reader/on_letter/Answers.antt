@@ -1,6 +1,5 @@
 -- `reader::on_letter` meets its contract. Assumes nothing.
 use mathlib.Core.Path.{sym}
-use borrow.Author.Rules.{rules}
 use Rattle.path.proofs.reader.on_letter.Goals as goal
 
 pub returns-then-is_letter : goal.returns-then-is_letter

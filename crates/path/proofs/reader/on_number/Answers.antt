@@ -2,7 +2,6 @@
 use mathlib.Core.Path.{sym, ◌∙◌}
 use borrow.Author.Tests.{eq-eqb, ne_eqb}
 use Rattle.path.proofs.Readings.{digit_low}
-use borrow.Author.Rules.{rules}
 use Rattle.path.proofs.reader.on_number.Goals as goal
 
 pub returns-then-v-eq0 : goal.returns-then-v-eq0

@@ -1,6 +1,5 @@
 -- `reader::on_point` meets its contract. Assumes nothing.
 use borrow.Author.Tests.{eq-eqb, ne_eqb}
-use borrow.Author.Rules.{rules}
 use Rattle.path.proofs.reader.on_point.Goals as goal
 
 pub returns-then-b-eq53 : goal.returns-then-b-eq53

@@ -1,6 +1,5 @@
 -- `reader::on_space` meets its contract. Assumes nothing.
 use borrow.Author.Tests.{eq-eqb, ne_eqb}
-use borrow.Author.Rules.{rules}
 use Rattle.path.proofs.reader.on_space.Goals as goal
 
 pub returns-then-b-eq32 : goal.returns-then-b-eq32

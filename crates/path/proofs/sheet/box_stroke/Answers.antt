@@ -6,7 +6,6 @@ use Rattle.grid.specs.declared.BoxRecord.{BoxRecord}
 use Rattle.path.specs.declared.stroke.Stroke.TheVariants.{Close}
 use Rattle.path.specs.code.Strokes.{box_stroke}
 use Rattle.path.proofs.Sheets.{box_in}
-use borrow.Author.Rules.{rules}
 use Rattle.path.proofs.sheet.box_stroke.Goals as goal
 
 past : (x y : ℕ) (b : BoxRecord) (k : ℕ) → 3 < k → Close ≡ box_stroke x y b k

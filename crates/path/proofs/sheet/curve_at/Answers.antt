@@ -1,6 +1,5 @@
 -- `sheet::curve_at`: the test. Assumes nothing.
 use borrow.Author.Tests.{lt-ltb, le-ltb}
-use borrow.Author.Rules.{rules}
 use Rattle.path.proofs.sheet.curve_at.Goals as goal
 
 pub returns-then-k-m : goal.returns-then-k-m

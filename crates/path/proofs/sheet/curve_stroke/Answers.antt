@@ -6,7 +6,6 @@ use Rattle.grid.specs.declared.Curve.{Curve}
 use Rattle.path.specs.declared.stroke.Stroke.TheVariants.{Curve as curve}
 use Rattle.path.specs.code.Strokes.{curve_stroke}
 use Rattle.path.proofs.Sheets.{curve_in}
-use borrow.Author.Rules.{rules}
 use Rattle.path.proofs.sheet.curve_stroke.Goals as goal
 
 later : (x y : ℕ) (c : Curve) (k : ℕ) → (k ≡ 0 → ⊥) → curve (x + c.x0) (y + c.y0) (x + c.x1) (y + c.y1) ≡ curve_stroke x y c k

@@ -3,7 +3,6 @@ use mathlib.Core.Path.{ap, ◌∙◌}
 use native.Mathlib.Omega.{arith}
 use lib.ListN.{length}
 use Rattle.path.proofs.Sheets.{next-first, next-later, range_bound}
-use borrow.Author.Rules.{rules}
 use Rattle.path.proofs.sheet.next_len.Goals as goal
 
 pub returns-then-k-eq0 : goal.returns-then-k-eq0

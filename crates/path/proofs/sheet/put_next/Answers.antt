@@ -4,7 +4,6 @@ use native.Mathlib.Omega.{arith}
 use lib.ListN.{length, length-set}
 use Rattle.path.proofs.Sheets.{next-first, next-later}
 use Rattle.path.proofs.Puts.{byte-then, put-long, put_as}
-use borrow.Author.Rules.{rules}
 use Rattle.path.proofs.sheet.put_next.Goals as goal
 
 pub put_segment-requires : goal.put_segment-requires

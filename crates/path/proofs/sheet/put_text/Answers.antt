@@ -13,7 +13,7 @@ use Rattle.grid.specs.Record.{no_box, no_curve, box_near, curve_near, sound_of}
 use Rattle.path.specs.declared.stroke.Stroke.{Stroke}
 use Rattle.path.specs.Text.{text_of}
 use Rattle.path.specs.Segments.{drawn_of}
-use Rattle.path.specs.Writer.{IsPut, put}
+use Rattle.path.specs.Writer.{put}
 use Rattle.path.specs.code.Strokes.{IsStroke, size_of, stroke_of, next_text}
 use Rattle.laws.proofs.Lists.{mapped_long}
 use Rattle.path.proofs.Sheets.{sound-is, drawn-long, box-room, curve-room, parts-near, parts_are, text-to, fits-to}

@@ -1,5 +1,5 @@
 -- `sheet::size_of` meets its contract: five a box, two a curve (`drawn-long`). Assumes nothing.
-use mathlib.Core.Path.{sym, ap}
+use mathlib.Core.Path.{sym}
 use Rattle.laws.proofs.Lists.{mapped_long}
 use Rattle.path.proofs.Sheets.{sound-is, drawn-long}
 use borrow.Author.Rules.{rules}

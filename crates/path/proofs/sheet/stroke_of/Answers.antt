@@ -1,6 +1,5 @@
 -- `sheet::stroke_of`: the test. Assumes nothing.
 use borrow.Author.Tests.{lt-ltb, le-ltb}
-use borrow.Author.Rules.{rules}
 use Rattle.path.proofs.sheet.stroke_of.Goals as goal
 
 pub box_stroke-requires : goal.box_stroke-requires

@@ -1,7 +1,6 @@
 -- `sheet::text_len` meets its contract: after k turns the length of the text of the first k segments. Assumes nothing.
 use Prim.Native.Nat.{◌<◌}
 use lib.ListN.{get_or}
-use Rattle.path.specs.declared.drawn.Drawn.TheVariants.{Move}
 use Prim.Native.Nat.{ℕ, ◌-◌, ◌*◌, ◌/◌, ◌≤◌}
 use mathlib.Core.Path.{◌≡◌, refl, ap, ◌∙◌}
 use native.Mathlib.Omega.{arith}

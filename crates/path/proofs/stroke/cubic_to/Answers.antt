@@ -1,6 +1,5 @@
 -- `stroke::cubic_to` meets its contract: the height is `halfway`. Assumes nothing.
 
-use borrow.Author.Rules.{rules}
 use Rattle.path.proofs.stroke.cubic_to.Goals as goal
 
 pub returns : goal.returns

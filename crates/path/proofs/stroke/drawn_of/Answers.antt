@@ -2,7 +2,6 @@
 use mathlib.Core.Path.{subst}
 use native.Mathlib.Omega.{arith}
 use Rattle.path.specs.code.Strokes.{InReach}
-use borrow.Author.Rules.{rules}
 use Rattle.path.proofs.stroke.drawn_of.Goals as goal
 
 pub overflow_mul-result : goal.overflow_mul-result

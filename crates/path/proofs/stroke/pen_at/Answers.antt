@@ -1,6 +1,5 @@
 -- `stroke::pen_at` meets its contract. Assumes nothing.
 
-use borrow.Author.Rules.{rules}
 use Rattle.path.proofs.stroke.pen_at.Goals as goal
 
 pub returns : goal.returns

@@ -1,7 +1,6 @@
 -- `stroke::pens_of` meets its contract. Assumes nothing.
 use mathlib.Core.Path.{subst}
 use Rattle.path.specs.code.Strokes.{InReach}
-use borrow.Author.Rules.{rules}
 use Rattle.path.proofs.stroke.pens_of.Goals as goal
 
 pub pen_at-requires : goal.pen_at-requires

@@ -2,7 +2,6 @@
 use native.Mathlib.Omega.{arith}
 use Rattle.path.proofs.Words.{pair-length}
 use Rattle.path.proofs.Numbers.{number_bound}
-use borrow.Author.Rules.{rules}
 use Rattle.path.proofs.writer.pair_len.Goals as goal
 
 pub overflow_add-result : goal.overflow_add-result

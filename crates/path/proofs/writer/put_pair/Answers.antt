@@ -1,9 +1,7 @@
 -- `writer::put_pair` meets its contract: two words, one after the other. Assumes nothing.
 use native.Mathlib.Omega.{arith}
-use lib.ListN.{length}
 use Rattle.path.proofs.Puts.{then, put-long, put_as}
 use Rattle.path.proofs.Words.{pair-split, pair-length}
-use borrow.Author.Rules.{rules}
 use Rattle.path.proofs.writer.put_pair.Goals as goal
 
 pub put_word-e-requires : goal.put_word-e-requires

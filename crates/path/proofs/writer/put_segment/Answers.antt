@@ -5,7 +5,6 @@ use lib.ListN.{length}
 use Rattle.path.proofs.Puts.{then, one_byte, put-long, put_as}
 use Rattle.path.proofs.Words.{cubic-split, cubic-length}
 use Rattle.path.specs.Text.{segment_text}
-use borrow.Author.Rules.{rules}
 use Rattle.path.proofs.writer.put_segment.Goals as goal
 
 pub put_to-requires : goal.put_to-requires

@@ -1,9 +1,8 @@
 -- `writer::put_to` meets its contract. Assumes nothing.
 use mathlib.Core.Path.{◌∙◌}
 use native.Mathlib.Omega.{arith}
-use lib.ListN.{length, length-set}
-use Rattle.path.proofs.Puts.{then, byte-then, put-long}
-use borrow.Author.Rules.{rules}
+use lib.ListN.{length-set}
+use Rattle.path.proofs.Puts.{byte-then, put-long}
 use Rattle.path.proofs.writer.put_to.Goals as goal
 
 pub put_pair-requires : goal.put_pair-requires

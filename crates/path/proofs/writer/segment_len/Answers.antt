@@ -4,7 +4,6 @@ use native.Mathlib.Omega.{arith}
 use lib.ListN.{length}
 use Rattle.path.proofs.Words.{pair_bound, cubic-length}
 use Rattle.path.specs.Text.{segment_text}
-use borrow.Author.Rules.{rules}
 use Rattle.path.proofs.writer.segment_len.Goals as goal
 
 pub overflow_add-result : goal.overflow_add-result
