@@ -1,9 +1,8 @@
 // A picture of a chart: a chart on standard input, its first 8,192 bytes, at origin 0 0; its sheet and labels, an SVG 1.1 document, on standard output.
-// Refused: the refusal on standard error, and nothing on standard output; so too an input of which no byte can be read.
+// Refused: the refusal on standard error, and nothing on standard output; so too an input that can't be read.
 #![tactic(auto)]
 
-ghost use Rattle.std.specs.Prelude.{◌≡◌, true, ◌≤◌, length};
-ghost use Rattle.io.specs.Counts.{IsPrefixLen};
+ghost use Rattle.std.specs.Prelude.{◌≡◌, true, ◌≤◌, length, take, IfOk};
 ghost use Rattle.grid.specs.Labels.{label_of};
 ghost use Rattle.grid.specs.Record.{sound_of};
 ghost use Rattle.grid.specs.RenderGrid.{Sheet};
@@ -13,124 +12,127 @@ ghost use Rattle.path.specs.Promises.{IsWritten};
 
 use chart::{Answer, Setting};
 use grid::{BoxRecord, NO_OWNER, SheetRecord};
-use libc::{STDERR_FILENO, STDOUT_FILENO};
 use path::{LabelAnswer, Written};
+use std::io;
+use std::io::{BufWriter, Read, Write};
 
-fn put(text: &[u8]) {
-    io::write_all(STDOUT_FILENO, text);
+// How many bytes of standard input are read.
+const ROOM: u64 = 8192;
+
+fn put<W: Write>(out: &mut W, text: &[u8]) -> io::Result<()> {
+    out.write_all(text)
 }
 
-fn put_number(n: u32) {
-    io::print_decimal(STDOUT_FILENO, n as u64);
+fn put_number<W: Write>(out: &mut W, n: u32) -> io::Result<()> {
+    write!(out, "{n}")
 }
 
 // An attribute whose value is a number.
-fn put_attribute(name: &[u8], n: u32) {
-    put(b" ");
-    put(name);
-    put(b"=\"");
-    put_number(n);
-    put(b"\"");
+fn put_attribute<W: Write>(out: &mut W, name: &[u8], n: u32) -> io::Result<()> {
+    put(out, b" ")?;
+    put(out, name)?;
+    put(out, b"=\"")?;
+    put_number(out, n)?;
+    put(out, b"\"")
 }
 
 // A byte of a text: the five that XML reserves go by name, and both bytes of a degree sign as they are (UTF-8 is XML's default).
-fn put_escaped(c: u8) {
+fn put_escaped<W: Write>(out: &mut W, c: u8) -> io::Result<()> {
     match c {
-        b'&' => put(b"&amp;"),
-        b'<' => put(b"&lt;"),
-        b'>' => put(b"&gt;"),
-        b'"' => put(b"&quot;"),
-        b'\'' => put(b"&apos;"),
-        _ => put(&[c]),
+        b'&' => put(out, b"&amp;"),
+        b'<' => put(out, b"&lt;"),
+        b'>' => put(out, b"&gt;"),
+        b'"' => put(out, b"&quot;"),
+        b'\'' => put(out, b"&apos;"),
+        _ => put(out, &[c]),
     }
 }
 
-fn put_text(text: &[u8]) {
-    let mut i = 0;
-    while i < text.len() {
-        put_escaped(text[i]);
-        i += 1;
+fn put_text<W: Write>(out: &mut W, text: &[u8]) -> io::Result<()> {
+    for c in text {
+        put_escaped(out, *c)?;
     }
+    Ok(())
 }
 
 // The document's start, and a white ground.
-fn put_head(width: u32, height: u32) {
-    put(b"<svg xmlns=\"http://www.w3.org/2000/svg\" version=\"1.1\" viewBox=\"0 0 ");
-    put_number(width);
-    put(b" ");
-    put_number(height);
-    put(b"\">\n<rect");
-    put_attribute(b"width", width);
-    put_attribute(b"height", height);
-    put(b" fill=\"white\"/>\n");
+fn put_head<W: Write>(out: &mut W, width: u32, height: u32) -> io::Result<()> {
+    put(
+        out,
+        b"<svg xmlns=\"http://www.w3.org/2000/svg\" version=\"1.1\" viewBox=\"0 0 ",
+    )?;
+    put_number(out, width)?;
+    put(out, b" ")?;
+    put_number(out, height)?;
+    put(out, b"\">\n<rect")?;
+    put_attribute(out, b"width", width)?;
+    put_attribute(out, b"height", height)?;
+    put(out, b" fill=\"white\"/>\n")
 }
 
 // The colour of a box: of a given node's, one of eight that colour-blind readers tell apart (Okabe and Ito's); grey where it leads to nothing.
-fn put_colour(owner: u8) {
+fn put_colour<W: Write>(out: &mut W, owner: u8) -> io::Result<()> {
     if owner == NO_OWNER {
-        put(b"#999999");
-        return;
+        return put(out, b"#999999");
     }
     match owner % 8 {
-        0 => put(b"#0072b2"),
-        1 => put(b"#d55e00"),
-        2 => put(b"#009e73"),
-        3 => put(b"#000000"),
-        4 => put(b"#e69f00"),
-        5 => put(b"#f0e442"),
-        6 => put(b"#56b4e9"),
-        _ => put(b"#cc79a7"),
+        0 => put(out, b"#0072b2"),
+        1 => put(out, b"#d55e00"),
+        2 => put(out, b"#009e73"),
+        3 => put(out, b"#000000"),
+        4 => put(out, b"#e69f00"),
+        5 => put(out, b"#f0e442"),
+        6 => put(out, b"#56b4e9"),
+        _ => put(out, b"#cc79a7"),
     }
 }
 
 // The tint of a box; none where it leads to nothing.
-fn put_tint(owner: u8) {
+fn put_tint<W: Write>(out: &mut W, owner: u8) -> io::Result<()> {
     if owner == NO_OWNER {
-        put(b"none");
-        return;
+        return put(out, b"none");
     }
-    put_colour(owner);
+    put_colour(out, owner)
 }
 
 // How its border is dashed. With the colour it tells any two of 32 nodes apart, and in print without colour any two of the first eight: of these the
 // dark colours, 0 to 3, are each dashed otherwise, and so are the light ones.
-fn put_dashes(owner: u8) {
+fn put_dashes<W: Write>(out: &mut W, owner: u8) -> io::Result<()> {
     if owner == NO_OWNER {
-        return;
+        return Ok(());
     }
     match (owner % 8 + owner / 8) % 4 {
-        0 => {}
-        1 => put(b" stroke-dasharray=\"192 96\""),
-        2 => put(b" stroke-dasharray=\"64 64\""),
-        _ => put(b" stroke-dasharray=\"256 64 64 64\""),
+        0 => Ok(()),
+        1 => put(out, b" stroke-dasharray=\"192 96\""),
+        2 => put(out, b" stroke-dasharray=\"64 64\""),
+        _ => put(out, b" stroke-dasharray=\"256 64 64 64\""),
     }
 }
 
 // A box in its owner's colour, over the sheet's path: its border, and a tint inside.
-fn put_box(b: BoxRecord) {
-    put(b"<rect");
-    put_attribute(b"x", b.x);
-    put_attribute(b"y", b.y);
-    put_attribute(b"width", b.width);
-    put_attribute(b"height", b.height);
-    put(b" fill=\"");
-    put_tint(b.owner);
-    put(b"\" stroke=\"");
-    put_colour(b.owner);
-    put(b"\"");
-    put_dashes(b.owner);
-    put(b"/>\n");
+fn put_box<W: Write>(out: &mut W, b: BoxRecord) -> io::Result<()> {
+    put(out, b"<rect")?;
+    put_attribute(out, b"x", b.x)?;
+    put_attribute(out, b"y", b.y)?;
+    put_attribute(out, b"width", b.width)?;
+    put_attribute(out, b"height", b.height)?;
+    put(out, b" fill=\"")?;
+    put_tint(out, b.owner)?;
+    put(out, b"\" stroke=\"")?;
+    put_colour(out, b.owner)?;
+    put(out, b"\"")?;
+    put_dashes(out, b.owner)?;
+    put(out, b"/>\n")
 }
 
-fn put_boxes(s: SheetRecord)
+fn put_boxes<W: Write>(out: &mut W, s: SheetRecord) -> io::Result<()>
     requires { sound_of s ≡ true }
 {
-    put(b"<g fill-opacity=\"0.15\" stroke-width=\"64\">\n");
-    let boxes = s.boxes;
-    for k in 0..s.count as usize {
-        put_box(boxes[k]);
+    put(out, b"<g fill-opacity=\"0.15\" stroke-width=\"64\">\n")?;
+    for b in s.boxes.iter().take(s.count as usize) {
+        put_box(out, *b)?;
     }
-    put(b"</g>\n");
+    put(out, b"</g>\n")
 }
 
 // Puts the text of a sound sheet at the buffer's start and answers its length. None is refused: such a text has at most 9,887 bytes.
@@ -138,127 +140,121 @@ fn write_text(s: SheetRecord, buf: &mut [u8]) -> usize
     requires s_value { sound_of s ≡ true }
     requires in_bounds { 9887 ≤ length buf.old }
     ensures written { IsWritten s buf.old (Written.Done result) buf.new }
-    ensures prefix_len { IsPrefixLen result buf.new }
+    ensures prefix_len { (result ≤ length buf.new) × (result ≡ length (take result buf.new)) }
 {
-    let written = path::write_sheet(s, buf);
-    let Written::Done(n) = written else {
-        // Never reached.
-        return 0;
+    let Written::Done(n) = path::write_sheet(s, buf) else {
+        unreachable!()
     };
     n
 }
 
 // The sheet's path; an empty one has an empty `d`, which draws nothing.
-fn put_path(s: SheetRecord)
+fn put_path<W: Write>(out: &mut W, s: SheetRecord) -> io::Result<()>
     requires { sound_of s ≡ true }
 {
-    put(b"<path d=\"");
-    let mut text = io::large_buffer();
+    put(out, b"<path d=\"")?;
+    let mut text = [0u8; 65536];
     let n = write_text(s, &mut text);
-    put(&text[..n]);
-    put(b"\" fill=\"none\" stroke=\"black\" stroke-width=\"24\"/>\n");
+    put(out, &text[..n])?;
+    put(
+        out,
+        b"\" fill=\"none\" stroke=\"black\" stroke-width=\"24\"/>\n",
+    )
 }
 
 // A label, unless its text is empty: its place is the left end of its baseline, and it is as wide as the layout has it, whatever the font.
-fn put_label(l: LabelAnswer, text: &[u8]) {
+fn put_label<W: Write>(out: &mut W, l: LabelAnswer, text: &[u8]) -> io::Result<()> {
     if text.len() == 0 {
-        return;
+        return Ok(());
     }
-    put(b"<text");
-    put_attribute(b"x", l.x);
-    put_attribute(b"y", l.y);
-    put_attribute(b"font-size", l.size);
-    put_attribute(b"textLength", l.width);
-    put(b" lengthAdjust=\"spacingAndGlyphs\" xml:space=\"preserve\">");
-    put_text(text);
-    put(b"</text>\n");
+    put(out, b"<text")?;
+    put_attribute(out, b"x", l.x)?;
+    put_attribute(out, b"y", l.y)?;
+    put_attribute(out, b"font-size", l.size)?;
+    put_attribute(out, b"textLength", l.width)?;
+    put(
+        out,
+        b" lengthAdjust=\"spacingAndGlyphs\" xml:space=\"preserve\">",
+    )?;
+    put_text(out, text)?;
+    put(out, b"</text>\n")
 }
 
 // Label i of box k. Whether there is such a label: of a chart that has a sheet, one that is refused isn't there.
-fn draw_label<'a>(chart: &'a [u8], table: &'a [u8], k: usize, i: usize) -> bool
+fn draw_label<W: Write>(
+    out: &mut W,
+    chart: &[u8],
+    table: &[u8],
+    k: usize,
+    i: usize,
+) -> io::Result<bool>
     requires { table.now ≡ stand_ins }
-    ensures { (sh : Sheet) → sheeted Setting.Default chart.now 0 0 ≡ ready sh → result ≡ (label_of sh k i).found }
+    ensures { IfOk result (λ found. (sh : Sheet) → sheeted Setting.Default chart.now 0 0 ≡ ready sh → found ≡ (label_of sh k i).found) }
 {
     let l = path::label_place(chart, 0, 0, Setting::Default, table, k, i);
-    let a = l.answer;
-    match a {
+    match l.answer {
         Answer::Ready => {
-            put_label(
-                l,
-                path::label_part(chart, 0, 0, Setting::Default, table, k, i),
-            );
-            true
+            let text = path::label_part(chart, 0, 0, Setting::Default, table, k, i);
+            put_label(out, l, text)?;
+            Ok(true)
         }
-        Answer::Refused(_, _) => false,
+        Answer::Refused(_, _) => Ok(false),
     }
 }
 
 // The labels of box k: at most 68, since a chart has at most 64 sources and sinks, and a box 4 lines.
-fn draw_box_labels<'a>(chart: &'a [u8], table: &'a [u8], k: usize)
+fn draw_box_labels<W: Write>(out: &mut W, chart: &[u8], table: &[u8], k: usize) -> io::Result<()>
     requires { table.now ≡ stand_ins }
 {
-    let mut i = 0usize;
-    while i < 68 {
-        if !draw_label(chart, table, k, i) {
-            return;
+    for i in 0..68usize {
+        if !draw_label(out, chart, table, k, i)? {
+            break;
         }
-        i += 1;
     }
+    Ok(())
 }
 
 // The labels of every box.
-fn draw_labels(chart: &[u8], count: u8) {
+fn draw_labels<W: Write>(out: &mut W, chart: &[u8], count: u8) -> io::Result<()> {
     let table = path::stand_ins();
-    let mut k = 0usize;
-    while k < count as usize {
-        draw_box_labels(chart, &table, k);
-        k += 1;
+    for k in 0..count {
+        draw_box_labels(out, chart, &table, k as usize)?;
     }
+    Ok(())
 }
 
-fn draw_sheet(chart: &[u8], s: SheetRecord)
+fn draw_sheet<W: Write>(out: &mut W, chart: &[u8], s: SheetRecord) -> io::Result<()>
     requires { sound_of s ≡ true }
 {
-    put_head(s.width, s.height);
-    put_path(s);
-    put_boxes(s);
-    put(b"<g font-family=\"monospace\">\n");
-    draw_labels(chart, s.count);
-    put(b"</g>\n</svg>\n");
+    put_head(out, s.width, s.height)?;
+    put_path(out, s)?;
+    put_boxes(out, s)?;
+    put(out, b"<g font-family=\"monospace\">\n")?;
+    draw_labels(out, chart, s.count)?;
+    put(out, b"</g>\n</svg>\n")
 }
 
-fn refuse(first: u8, second: u32) {
-    io::write_all(STDERR_FILENO, b"refused ");
-    io::print_decimal(STDERR_FILENO, first as u64);
-    io::write_all(STDERR_FILENO, b" ");
-    io::print_decimal(STDERR_FILENO, second as u64);
-    io::write_all(STDERR_FILENO, b"\n");
+fn refuse<W: Write>(err: &mut W, first: u8, second: u32) -> io::Result<()> {
+    writeln!(err, "refused {first} {second}")
 }
 
-fn draw(chart: &[u8]) {
+// The picture goes to `out`, a refusal to `err`.
+fn draw<W: Write, E: Write>(out: &mut W, err: &mut E, chart: &[u8]) -> io::Result<()> {
     let r = grid::sheet(chart, 0, 0, Setting::Default);
-    let a = r.answer;
-    let s = r.sheet;
-    match a {
-        Answer::Ready => draw_sheet(chart, s),
-        Answer::Refused(first, second) => refuse(first, second),
+    match r.answer {
+        Answer::Ready => draw_sheet(out, chart, r.sheet),
+        Answer::Refused(first, second) => refuse(err, first, second),
     }
 }
 
-// Whether the input, of which no byte was read, has ended. (A board with nothing fitted sends no byte; a read that fails is no board.)
-fn at_end() -> bool {
-    let mut space = [0u8; 1];
-    libc::read(0, &mut space) == 0
-}
-
-fn main() {
-    let mut space = [0u8; 8192];
-    let n = io::read_full(0, &mut space);
-    if n == 0 {
-        if !at_end() {
-            io::write_all(STDERR_FILENO, b"standard input can't be read\n");
-            return;
-        }
+// (A board with nothing fitted sends no byte; a read that fails is no board.)
+fn main(rt: HostRuntime) -> io::Result<()> {
+    let mut chart = Vec::new(rt.alloc());
+    if let Err(error) = rt.reader().take(ROOM).read_to_end(&mut chart) {
+        eprintln!(rt; "standard input can't be read")?;
+        return Err(error);
     }
-    draw(&space[..n]);
+    let mut out = BufWriter::new(rt.alloc(), io::writer(&rt))?;
+    draw(&mut out, &mut rt.stderr(), chart.as_slice())?;
+    out.flush()
 }

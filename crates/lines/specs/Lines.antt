@@ -1,6 +1,6 @@
 -- Lines of hexadecimal digits in lower case, after a D or not.
 -- Assumes nothing.
-use Rattle.std.specs.Prelude.{ℕ, zero, suc, ◌+◌, ◌-◌, ◌*◌, Bool, true, false, cond, List, [], ◌∷◌, eqb, ltb, get_or, set, take, drop}
+use Rattle.std.specs.Prelude.{ℕ, suc, ◌+◌, ◌-◌, ◌*◌, Bool, false, cond, List, [], ◌∷◌, eqb, ltb, get_or, set, take, drop}
 use Rattle.laws.specs.Each.{each}
 
 -- a digit's value, 0 for any other byte

@@ -3,65 +3,66 @@
 #![tactic(auto)]
 
 use chart::Answer;
-use libc::STDOUT_FILENO;
 use signal::SignalOrder;
+use std::io;
+use std::io::{BufWriter, Read, Write};
 
-fn number(n: u64) {
-    io::write_all(STDOUT_FILENO, b" ");
-    io::print_decimal(STDOUT_FILENO, n);
+// How many bytes of standard input are read.
+const ROOM: u64 = 1048576;
+
+fn number<W: Write>(out: &mut W, n: u64) -> io::Result<()> {
+    write!(out, " {n}")
 }
 
-fn print_nodes(nodes: [u8; 32], count: u8) {
-    for k in 0..32usize {
-        if k < count as usize {
-            number(nodes[k] as u64);
-        }
+fn print_nodes<W: Write>(out: &mut W, nodes: &[u8], count: u8) -> io::Result<()> {
+    for node in nodes.iter().take(count as usize) {
+        number(out, *node as u64)?;
     }
-    io::write_all(STDOUT_FILENO, b"\n");
+    out.write_all(b"\n")
 }
 
 // A refusal, and the cycle that it shows, if it shows one.
-fn print_refusal(first: u8, second: u32, r: SignalOrder) {
-    io::write_all(STDOUT_FILENO, b"refused");
-    number(first as u64);
-    number(second as u64);
+fn print_refusal<W: Write>(out: &mut W, first: u8, second: u32, r: &SignalOrder) -> io::Result<()> {
+    out.write_all(b"refused")?;
+    number(out, first as u64)?;
+    number(out, second as u64)?;
     if 0 < r.count {
-        io::write_all(STDOUT_FILENO, b" cycle");
+        out.write_all(b" cycle")?;
     }
-    let nodes = r.nodes;
-    print_nodes(nodes, r.count);
+    print_nodes(out, &r.nodes, r.count)
 }
 
-fn print_order(bytes: &[u8]) {
+fn print_order<W: Write>(out: &mut W, bytes: &[u8]) -> io::Result<()> {
     let r = signal::signal_order(bytes);
-    let a = r.answer;
-    match a {
+    match r.answer {
         Answer::Ready => {
-            io::write_all(STDOUT_FILENO, b"order");
-            let nodes = r.nodes;
-            print_nodes(nodes, r.count);
+            out.write_all(b"order")?;
+            print_nodes(out, &r.nodes, r.count)
         }
-        Answer::Refused(first, second) => print_refusal(first, second, r),
+        Answer::Refused(first, second) => print_refusal(out, first, second, &r),
     }
 }
 
-fn print_hex(text: &[u8]) {
-    let mut chart = io::large_buffer();
+fn print_hex<W: Write>(out: &mut W, text: &[u8]) -> io::Result<()> {
+    let mut chart = [0u8; 65536];
     let n = lines::decode(text, &mut chart);
-    print_order(&chart[..n]);
+    print_order(out, &chart[..n])
 }
 
-fn print_all(text: &[u8]) {
+fn print_all<W: Write>(out: &mut W, text: &[u8]) -> io::Result<()> {
     let mut at = 0;
     while at < text.len() {
         let line = lines::line(text, at);
-        print_hex(line);
+        print_hex(out, line)?;
         at += line.len() + 1;
     }
+    Ok(())
 }
 
-fn main() {
-    let mut space = lines::space();
-    let n = io::read_full(0, &mut space);
-    print_all(&space[..n]);
+fn main(rt: HostRuntime) -> io::Result<()> {
+    let mut text = Vec::new(rt.alloc());
+    rt.reader().take(ROOM).read_to_end(&mut text)?;
+    let mut out = BufWriter::new(rt.alloc(), io::writer(&rt))?;
+    print_all(&mut out, text.as_slice())?;
+    out.flush()
 }
