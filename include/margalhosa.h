@@ -1,6 +1,6 @@
 /* Margalhosa for firmware in C: a chart's wiring sheet, its boxes, segments, path text and labels; its signal order.
 
-   Link target/staticlib/libmargalhosa.a (`rt staticlib margalhosa`; it wants memcpy, memmove and memset).
+   Link crates/margalhosa/out/libmargalhosa.a (`rt lib` in that folder; it wants memcpy, memmove and memset).
    Each function is proved to meet its contract in crates/margalhosa/src/lib.rt, for every input; "1 to 14" below
    are the refusals of document 01, 20 is document 02's. In each result `refused` is the refusal's number, 0 if nothing
    is refused, and `second` its second number. The functions keep nothing between calls and write nothing but the lent

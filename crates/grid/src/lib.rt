@@ -13,7 +13,7 @@ ghost use Rattle.grid.specs.Curves.{record_of};
 ghost use Rattle.grid.specs.Sheeted.{within as within_of, refusal, outcome_of};
 ghost use Rattle.grid.specs.code.Laid.{arranged_of};
 ghost use Rattle.grid.specs.LaidOut.{IsSheet};
-ghost use Rattle.grid.specs.Labelled.{refusal as noPlace, labelled, label_outcome_of};
+ghost use Rattle.grid.specs.Labelled.{refusal as refused_place, labelled, label_outcome_of};
 
 use chart::{Answer, Setting};
 use graph::Tables;
@@ -200,7 +200,7 @@ pub fn sheet(chart: &[u8], x: u32, y: u32, setting: Setting) -> Outcome
 
 // A refused label.
 fn no_place(number: u8, second: u32) -> LabelOutcome
-    ensures { result ≡ label_outcome_of (noPlace number second) }
+    ensures { result ≡ label_outcome_of (refused_place number second) }
 {
     let none = label::not_here(0).place;
     LabelOutcome {

@@ -97,12 +97,13 @@ fn print_listing<W: Write>(out: &mut W, chart: &[u8]) -> io::Result<()> {
     }
 }
 
-// (A board with nothing fitted sends no byte; a read that fails is no board.)
+// (A board with nothing fitted sends no byte; a read that fails before the first byte is no board. Where one fails later, what came before it is judged.)
 fn main(rt: HostRuntime) -> io::Result<()> {
-    let mut chart = Vec::new(rt.alloc());
-    if let Err(error) = rt.reader().take(ROOM).read_to_end(&mut chart) {
+    let mut chart = Vec::with_capacity(rt.alloc(), ROOM as usize)?;
+    let read = rt.reader().take(ROOM).read_to_end(&mut chart);
+    if read.is_err() && chart.len() == 0 {
         eprintln!(rt; "standard input can't be read")?;
-        return Err(error);
+        return Ok(());
     }
     let mut out = BufWriter::new(rt.alloc(), io::writer(&rt))?;
     print_listing(&mut out, chart.as_slice())?;

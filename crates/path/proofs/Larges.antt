@@ -248,7 +248,7 @@ module _ (ds : List Drawn) (l : Large ds) where
       ap text_of l.segments ∙ lead-split l.early l.here l.late
       ∙ ap (λ (z : List ℕ). lead ++ z) (numbers-split l.passed l.rest l.large (numbers_of l.here) (rest_text l.late) l.numbers)
 
-  -- before the number stands `textBefore`
+  -- before the number stands `text_before`
   pub large-stands : text_of ds ≡ text_before l ++ (number_text l.large ++ (numbers_text l.rest ++ rest_text l.late))
   large-stands = large-split ∙ simp append_assoc
 

@@ -86,6 +86,6 @@ abbrev pub with_nodes : Tables → ℕ → Board → Tables
 with_nodes t p [] = t
 with_nodes t p (q ∷ qs) = with_nodes (with_node t p q) (suc p) qs
 
--- the tables of n nodes; of an accepted board they are `boardTables` (proofs/Accepts)
+-- the tables of n nodes; of an accepted board they are `board_tables` (proofs/Accepts)
 unfoldable pub tables_of : ℕ → Board → Tables
 tables_of n ps = with_nodes (empty_board n) 0 ps

@@ -1,4 +1,4 @@
--- What the crates above take of an answer of `read` (`Reads-of` of proofs/Accepts), and what its last steps answer.
+-- What the crates above take of an answer of `read` (`reads_of` of proofs/Accepts), and what its last steps answer.
 -- Assumes nothing.
 use Rattle.std.specs.Prelude.{ℕ, ◌+◌, ◌-◌, ◌≤◌, ◌<◌, ◌≡◌, cond, List, leb, ltb, length}
 use Rattle.std.proofs.Math.Option.{Option, none, some}

@@ -1,4 +1,4 @@
--- `halves::halfway` meets its contract: neither the sum nor the half is rounded (`halfway-at`). Assumes nothing.
+-- `halves::halfway` meets its contract: neither the sum nor the half is rounded (`halfway_at`). Assumes nothing.
 use native.Mathlib.Omega.{arith}
 use Rattle.path.proofs.Exact.{castable, halfway_at}
 use Rattle.path.proofs.halves.halfway.Goals as goal

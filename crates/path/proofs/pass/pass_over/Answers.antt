@@ -1,4 +1,4 @@
--- `pass::pass_over` meets its contract: after i turns the pass is `passTo` i. Assumes nothing.
+-- `pass::pass_over` meets its contract: after i turns the pass is `pass_to` i. Assumes nothing.
 use Rattle.path.proofs.Passes.{turn_count, turn_value, turn_next}
 use mathlib.Core.Path.{◌≡◌, ap, ◌∙◌}
 use native.Mathlib.Omega.{arith}

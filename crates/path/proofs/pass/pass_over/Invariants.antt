@@ -1,4 +1,4 @@
--- `pass::pass_over` meets its contract: after i turns the pass is `passTo` i. Assumes nothing.
+-- `pass::pass_over` meets its contract: after i turns the pass is `pass_to` i. Assumes nothing.
 use mathlib.Core.Path.{◌≡◌}
 use Prim.Native.Nat.{◌-◌, ◌≤◌}
 use lib.ListN.{length}

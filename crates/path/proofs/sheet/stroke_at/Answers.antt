@@ -1,4 +1,4 @@
--- `sheet::stroke_at` meets its contract: by `stroke-is`. Assumes nothing.
+-- `sheet::stroke_at` meets its contract: by `stroke_is`. Assumes nothing.
 use mathlib.Core.Path.{◌≡◌}
 use Prim.Native.Nat.{◌-◌, ◌*◌, ◌/◌, ◌<◌}
 use native.Mathlib.Omega.{arith}
