@@ -1,6 +1,6 @@
 # ARMv6-M: the library's module for another target, linked into the unit's memory, on the emulator. For bench/run and bench/search.
-kit=${RATTLE_HOME:-$(dirname "$(dirname "$(rt doc)")")}
-clang=$kit/on/$(uname -m)/toolchain/bin/clang
+kit=${RATTLE_HOME:-$(dirname "$(rt doc)")}
+clang=$kit/toolchain/bin/clang
 emulator="timeout 300 qemu-system-arm -M mps2-an385 -display none -serial none -monitor none -semihosting-config enable=on,target=native"
 ulimit -c 0 # the emulator aborts where the unit would fault
 
