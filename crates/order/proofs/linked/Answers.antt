@@ -4,7 +4,7 @@ use Prim.Native.Nat.{ℕ, ◌<◌}
 use mathlib.Core.Path.{◌≡◌, refl}
 use native.Mathlib.Omega.{arith}
 use lib.Dec.{ltb}
-use lib.ListN.{length, take}
+use lib.ListN.{length, take, get_or}
 use Rattle.laws.specs.Bytes.{all_of}
 use Rattle.laws.proofs.Lists.{test_fails, test_next}
 use Rattle.laws.proofs.Tests.{and_false}
@@ -40,12 +40,12 @@ pub returns-then-n-e : goal.returns-then-n-e
 returns-then-n-e c = rw (le-leb c.args.n 48 c.if-n-gt48.false, le-leb c.args.e.count 88 c.if-e-gt88.false, test_fails (λ (x : ℕ). ltb x c.args.n) 0 c.args.e.owner c.loop-k.k c.args.e.count c.loop-k-test.true (owner-inside (goal.at.returns-then-n-e c).At-loop-k c.loop-k-test.true) (le-ltb _ _ c.if-n-e.true))
 
 pub returns-then-n-e-2 : goal.returns-then-n-e-2
-returns-then-n-e-2 c = rw (le-leb c.args.n 48 c.if-n-gt48.false, le-leb c.args.e.count 88 c.if-e-gt88.false, test_fails (λ (x : ℕ). ltb x c.args.n) 0 c.args.e.to c.loop-k.k c.args.e.count c.loop-k-test.true (to_inside (goal.at.returns-then-n-e-2 c).At-loop-k c.loop-k-test.true) (le-ltb _ _ c.if-n-e-2.true), and_false (all_of (λ (x : ℕ). ltb x c.args.n) (take c.args.e.count c.args.e.owner)))
+returns-then-n-e-2 c = rw (le-leb c.args.n 48 c.if-n-gt48.false, le-leb c.args.e.count 88 c.if-e-gt88.false, test_fails (λ (x : ℕ). ltb x c.args.n) 0 c.args.e.to c.loop-k.k c.args.e.count c.loop-k-test.true (to_inside (goal.at.returns-then-n-e-2 c).At-loop-k c.loop-k-test.true) (le-ltb (get_or c.args.e.to c.loop-k.k 0) c.args.n (omega (arith, c.if-n-e-2.true, c.if-n-gt48.false))), and_false (all_of (λ (x : ℕ). ltb x c.args.n) (take c.args.e.count c.args.e.owner)))
 
 pub loop-k-preserved : goal.loop-k-preserved
 loop-k-preserved c =
     let t = c.loop-k-test.true in
-    (search rules, test_next (λ (x : ℕ). ltb x c.args.n) 0 c.args.e.owner c.loop-k.k (owner-inside (goal.at.loop-k-preserved c).At-loop-k t) c.loop-k.invariant.1 (lt-ltb _ _ c.if-n-e.false), test_next (λ (x : ℕ). ltb x c.args.n) 0 c.args.e.to c.loop-k.k (to_inside (goal.at.loop-k-preserved c).At-loop-k t) c.loop-k.invariant.2 (lt-ltb _ _ c.if-n-e-2.false))
+    (search rules, test_next (λ (x : ℕ). ltb x c.args.n) 0 c.args.e.owner c.loop-k.k (owner-inside (goal.at.loop-k-preserved c).At-loop-k t) c.loop-k.invariant.1 (lt-ltb _ _ c.if-n-e.false), test_next (λ (x : ℕ). ltb x c.args.n) 0 c.args.e.to c.loop-k.k (to_inside (goal.at.loop-k-preserved c).At-loop-k t) c.loop-k.invariant.2 (lt-ltb (get_or c.args.e.to c.loop-k.k 0) c.args.n (omega (arith, c.if-n-e-2.false))))
 
 pub returns : goal.returns
 returns c =

@@ -36,12 +36,12 @@ bounds-sources-k c = omega (arith, k-in (goal.at.bounds-sources-k c).Start, c.re
 pub returns-then-n-e : goal.returns-then-n-e
 returns-then-n-e c =
     sink_out c.args.t c.requires.owned c.args.p c.args.j c.args.k c.requires.sunk c.requires.p_lt_n
-    (get_or c.args.t.sources.items c.args.k no_item) (same (goal.at.returns-then-n-e c).Start) c.if-n-e.true
+    (get_or c.args.t.sources.items c.args.k no_item) (same (goal.at.returns-then-n-e c).Start) (omega (arith, c.if-n-e.true, c.requires.owned.nodes))
 
 pub returns-then-leads_to : goal.returns-then-leads_to
 returns-then-leads_to c =
     sink-kept c.args.t c.requires.owned c.args.p c.args.j c.args.k c.requires.sunk c.requires.p_lt_n
-    (get_or c.args.t.sources.items c.args.k no_item) (same (goal.at.returns-then-leads_to c).Start) c.if-n-e.false (sym c.leads_to.ensures ∙ c.if-leads_to.true)
+    (get_or c.args.t.sources.items c.args.k no_item) (same (goal.at.returns-then-leads_to c).Start) (omega (arith, c.if-n-e.false)) (sym c.leads_to.ensures ∙ c.if-leads_to.true)
 
 pub overflow_add-number : goal.overflow_add-number
 overflow_add-number c =
@@ -59,7 +59,7 @@ marked-with_mark-requires c = record { count_bound = c.requires.owned.source_roo
 pub returns : goal.returns
 returns c =
     sink-gained c.args.t c.requires.owned c.args.p c.args.j c.args.k c.requires.sunk c.requires.p_lt_n
-    (get_or c.args.t.sources.items c.args.k no_item) (same (goal.at.returns c).Start) c.if-n-e.false c.requires.count_bound
+    (get_or c.args.t.sources.items c.args.k no_item) (same (goal.at.returns c).Start) (omega (arith, c.if-n-e.false)) c.requires.count_bound
     (sym c.leads_to.ensures ∙ c.if-leads_to.false)
     c.count_owned-number.result c.count_owned-number.ensures
     c.marked-with_mark.result c.push-with_sink.result
