@@ -3,7 +3,9 @@
 use Prim.Native.Nat.{ℕ, suc, ◌+◌, ◌-◌, ◌*◌, ◌≤◌, ◌<◌}
 use native.Mathlib.Omega.{arith}
 use mathlib.Core.Path.{◌≡◌, refl, ap, sym, ◌∙◌}
-use mathlib.Core.Option.{Option, none, some}
+use Rattle.std.specs.Prelude.{Option, Some, None, Result, Ok, Err}
+use Rattle.refusals.specs.Refusals.{numbers_in}
+use Rattle.refusals.specs.declared.Refusal.{Refusal}
 use mathlib.Core.Bool.{Bool, true, false, cond}
 use mathlib.Core.List.{List, [], ◌∷◌, ◌++◌}
 use lib.Dec.{eqb, leb, ltb}
@@ -11,23 +13,18 @@ use lib.ListN.{length, get_or}
 use borrow.Author.Tests.{lt-ltb, le-ltb, le-leb, lt-leb, ne_eqb, ltb-true, ltb-false, leb-true, leb-false}
 use Rattle.chart.specs.declared.Line.{Line}
 use Rattle.chart.specs.declared.Board.{Board as Tables}
-use Rattle.chart.specs.declared.Answer.TheVariants.{Ready}
-use Rattle.chart.specs.declared.Outcome.{Outcome}
 use Rattle.chart.specs.declared.Setting.{Setting}
 use Rattle.chart.specs.declared.Setting.TheVariants.{Default, Strict}
-use Rattle.chart.specs.declared.reader.Nodes.{Nodes}
-use Rattle.chart.specs.declared.judge.Outside.{Outside}
-use Rattle.chart.specs.declared.judge.Outside.TheVariants.{Nothing, Target}
-use Rattle.chart.specs.Chart.{End, Node, Board, Reading, ready, refusal, Got, got, refused, number_of, ends_of, targets, targets_of, first_outside, outside_in, judge_targets, judge, judged, under_two, bodies, chart}
+use Rattle.chart.specs.Chart.{End, Node, Board, Reading, ready, refusal, Got, got, refused, ends_of, targets, targets_of, first_outside, outside_in, judge_targets, judge, judged, under_two, bodies, chart}
+use Rattle.refusals.specs.declared.Refusal.TheVariants.{OneByte, Outside, BytesAfter, CutContents, ManyEnds, ManyNodes, OtherFormat}
 use Rattle.chart.specs.Tables.{item_of, line_of, sources_from, lines_from, sinks_from, board_tables}
 use Rattle.chart.specs.code.Filled.{empty_board, board_of, tables_of}
-use Rattle.chart.specs.code.Steps.{nodes_of, outside_of}
+use Rattle.chart.specs.code.Steps.{Into, nodes_into}
 use Rattle.laws.specs.Lists.{All, capped}
 use Rattle.laws.proofs.Lists.{all_map, all-flat, capped-room, capped-full}
 use Rattle.chart.specs.Accepted.{Fitting, EndFits, Aimed, Formed, Accepted}
-use Rattle.chart.specs.Read.{numbers_of, outcome_of, IsRead}
-use Rattle.chart.specs.code.Reads.{closed_of, reading_of, read_of, Owned, Sound, Reads, answered, judged_of}
-use Rattle.chart.proofs.Readers.{number-some}
+use Rattle.chart.specs.Read.{answer_of, IsRead}
+use Rattle.chart.specs.code.Reads.{reading_of, read_of, Owned, Sound, Reads, outside_judged, judged_of}
 use Rattle.chart.proofs.Gives.{Gives, Shaped, Bodies, ending-from, bodies_give}
 use Rattle.chart.proofs.Held.{LowNode, tables-are, board-held, ends-count, lines-count, table-back, lines-back, tables-held}
 
@@ -39,11 +36,11 @@ all_append P (x ∷ xs) ys a = let r = all_append P xs ys a.1 in ((a.0, r.0), r.
 abbrev Below : ℕ → ℕ → Type 0
 Below n t = t < n
 
-targets-below : (n : ℕ) (ts : List ℕ) → first_outside ts n ≡ none → All (Below n) ts
+targets-below : (n : ℕ) (ts : List ℕ) → first_outside ts n ≡ None → All (Below n) ts
 targets-below n [] e = tt
 targets-below n (t ∷ ts) e = go (ltb t n) refl (targets-below n ts) e
   where
-    go : (b : Bool) → ltb t n ≡ b → (first_outside ts n ≡ none → All (Below n) ts) → cond b (first_outside ts n) (some t) ≡ none → (t < n) × All (Below n) ts
+    go : (b : Bool) → ltb t n ≡ b → (first_outside ts n ≡ None → All (Below n) ts) → cond b (first_outside ts n) (Some t) ≡ None → (t < n) × All (Below n) ts
     go true h r q = (ltb-true t n h, r q)
     go false h r q = let z : ◌≡◌ {A = ℕ} 0 1 = cc in absurd (omega arith)
 
@@ -54,14 +51,14 @@ module _ (w : Setting) (s : List ℕ) (n : ℕ) where
   abbrev In : ℕ → Type 0
   In t = w ≡ Strict → t < n
 
-  below_in : (ts : List ℕ) → outside_in w ts n ≡ none → All In ts
+  below_in : (ts : List ℕ) → outside_in w ts n ≡ None → All In ts
   below_in ts o = go w refl o
     where
       free : (us : List ℕ) → (w ≡ Strict → ⊥) → All In us
       free [] d = tt
       free (u ∷ us) d = (λ e. absurd (d e), free us d)
 
-      go : (v : Setting) → w ≡ v → outside_in v ts n ≡ none → All In ts
+      go : (v : Setting) → w ≡ v → outside_in v ts n ≡ None → All In ts
       go Default e o = free ts (λ f. not_strict (sym e ∙ f))
       go Strict e o = all_map (λ t h u. h) ts (targets-below n ts o)
 
@@ -77,8 +74,8 @@ module _ (w : Setting) (s : List ℕ) (n : ℕ) where
       (record { sources = aimed p.sources t.1 f.0.sources; lines = f.0.lines; few = f.0.few; sinks = aimed p.sinks t.0 f.0.sinks }, formed ps r.1 f.1)
 
 -- ---- the limits
-never : {A : Type 0} (a b : ℕ) (ps : Board) → refusal a b ≡ ready ps → A
-never a b ps e = let z : ◌≡◌ {A = ℕ} 0 1 = cc in absurd (omega arith)
+never : {A : Type 0} (why : Refusal) (ps : Board) → refusal why ≡ ready ps → A
+never why ps e = let z : ◌≡◌ {A = ℕ} 0 1 = cc in absurd (omega arith)
 
 same : (ps qs : Board) → ready ps ≡ ready qs → ps ≡ qs
 same ps qs e = cc
@@ -87,7 +84,7 @@ module _ (w : Setting) (s : List ℕ) (small : get_or s 1 0 ≤ 32) where
   abbrev count : ℕ
   count = get_or s 1 0
 
-  within : (qs : Board) (at : ℕ) → Bodies s count (2 + 2 * count) qs at → length s ≤ at → ends_of qs ≤ 64 → outside_in w (targets_of qs) count ≡ none → Accepted w s qs
+  within : (qs : Board) (at : ℕ) → Bodies s count (2 + 2 * count) qs at → length s ≤ at → ends_of qs ≤ 64 → outside_in w (targets_of qs) count ≡ None → Accepted w s qs
   within qs at h l m o =
       record {
         count = h.count;
@@ -101,15 +98,15 @@ module _ (w : Setting) (s : List ℕ) (small : get_or s 1 0 ≤ 32) where
   judge-accepts ps qs at h e = go (ltb at (length s)) (leb (ends_of qs) 64) (outside_in w (targets_of qs) count) refl refl refl e
     where
       go : (a b : Bool) (o : Option ℕ) → ltb at (length s) ≡ a → leb (ends_of qs) 64 ≡ b → outside_in w (targets_of qs) count ≡ o
-          → cond a (refusal 10 0) (cond b (judge_targets o qs) (refusal 11 0)) ≡ ready ps → Accepted w s ps
-      go true b o i j k e = never 10 0 ps e
-      go false false o i j k e = never 11 0 ps e
-      go false true (some t) i j k e = never 12 t ps e
-      go false true none i j k e = rw (same qs ps e) at (within qs at h (ltb-false at (length s) i) (leb-true (ends_of qs) 64 j) k)
+          → cond a (refusal BytesAfter) (cond b (judge_targets o qs) (refusal ManyEnds)) ≡ ready ps → Accepted w s ps
+      go true b o i j k e = never BytesAfter ps e
+      go false false o i j k e = never ManyEnds ps e
+      go false true (Some t) i j k e = never (Outside t) ps e
+      go false true None i j k e = rw (same qs ps e) at (within qs at h (ltb-false at (length s) i) (leb-true (ends_of qs) 64 j) k)
 
   judged-accepts : (ps : Board) (g : Got Board) → Gives g (Bodies s count (2 + 2 * count)) → judged w s count g ≡ ready ps → Accepted w s ps
   judged-accepts ps (got qs at) h e = judge-accepts ps qs at h e
-  judged-accepts ps (refused r) h e = never (number_of r) 0 ps e
+  judged-accepts ps (refused r) h e = never r ps e
 
 -- a chart of no byte has no node
 under-two-accepts : (w : Setting) (s : List ℕ) (ps : Board) → under_two (length s) ≡ ready ps → Accepted w s ps
@@ -118,19 +115,19 @@ under-two-accepts w [] ps e =
     rw (same [] ps e) at a
 under-two-accepts w (b ∷ s) ps e =
     let z : eqb (suc (length s)) 0 ≡ false = ne_eqb (suc (length s)) 0 (λ q. omega arith) in
-    never 1 0 ps (rw z at e)
+    never OneByte ps (rw z at e)
 
 pub accepted : (w : Setting) (s : List ℕ) (ps : Board) → chart w s ≡ ready ps → Accepted w s ps
 unfolding chart
 accepted w s ps e = go (ltb (length s) 2) (eqb (get_or s 0 0) 1) (leb (get_or s 1 0) 32) (leb (2 + 2 * get_or s 1 0) (length s)) refl e
   where
     go : (a b c d : Bool) → leb (get_or s 1 0) 32 ≡ c
-        → cond a (under_two (length s)) (cond b (cond c (cond d (judged w s (get_or s 1 0) (bodies (get_or s 1 0) s 0 (2 + 2 * get_or s 1 0))) (refusal 4 0)) (refusal 3 0)) (refusal 2 0)) ≡ ready ps
+        → cond a (under_two (length s)) (cond b (cond c (cond d (judged w s (get_or s 1 0) (bodies (get_or s 1 0) s 0 (2 + 2 * get_or s 1 0))) (refusal CutContents)) (refusal ManyNodes)) (refusal OtherFormat)) ≡ ready ps
         → Accepted w s ps
     go true b c d h q = under-two-accepts w s ps q
-    go false false c d h q = never 2 0 ps q
-    go false true false d h q = never 3 0 ps q
-    go false true true false h q = never 4 0 ps q
+    go false false c d h q = never OtherFormat ps q
+    go false true false d h q = never ManyNodes ps q
+    go false true true false h q = never CutContents ps q
     go false true true true h q =
         judged-accepts w s (leb-true (get_or s 1 0) 32 h) ps (bodies (get_or s 1 0) s 0 (2 + 2 * get_or s 1 0)) (bodies_give (get_or s 1 0) s 0 (2 + 2 * get_or s 1 0)) q
 
@@ -187,44 +184,49 @@ sound-held w s ps a =
       sinks = rw (table-back ys k) (all-flat item_of (λ (q : Node). q.sinks) n (Aimed w s n) (Owned n) (λ p e l h. l) 0 ps (omega arith) (all_map (λ p f. f.sinks) ps a.formed));
     })
 
-sound-of : (w : Setting) (s : List ℕ) (g : Reading) → chart w s ≡ g → Sound (read_of g).board
-sound-of w s (ready ps) e = sound-held w s ps (accepted w s ps e)
-sound-of w s (refusal a b) e = record { nodes = omega arith; ends = omega arith; lines = omega arith; sources = tt; owners = tt; sinks = tt }
-
 -- ---- the contract of `read`
+err_ok : {A : Type 0} {why : Refusal} {x : A} → Err why ≡ Ok x → ⊥
+err_ok e = let z : ◌≡◌ {A = ℕ} 0 1 = cc in omega arith
+
 reads-back : (w : Setting) (s : List ℕ) (g : Reading) → chart w s ≡ g → reading_of (read_of g) ≡ g
 reads-back w s (ready ps) e = ap ready (accepted-held w s ps (accepted w s ps e))
-reads-back w s (refusal a b) e = refl
+reads-back w s (refusal why) e = refl
 
-limits_of : (w : Setting) (s : List ℕ) (g : Reading) → chart w s ≡ g → (read_of g).answer ≡ Ready → Accepted w s (board_of (read_of g).board)
-limits_of w s (ready ps) e h = rw (accepted-held w s ps (accepted w s ps e)) (accepted w s ps e)
-limits_of w s (refusal a b) e h = let z : ◌≡◌ {A = ℕ} 0 1 = cc in absurd (omega arith)
+module _ (w : Setting) (s : List ℕ) (b : Tables) where
+  limits_of : (g : Reading) → chart w s ≡ g → read_of g ≡ Ok b → Accepted w s (board_of b)
+  limits_of (ready ps) e h = let a = accepted w s ps e in let z : tables_of (length ps) ps ≡ b = cc in rw (← z, accepted-held w s ps a) a
+  limits_of (refusal why) e h = absurd (err_ok h)
 
-read_same : (w : Setting) (s : List ℕ) (g : Reading) → chart w s ≡ g → read_of g ≡ outcome_of g
-read_same w s (ready ps) e = ap (λ (b : Tables). record { answer = Ready; board = b }) (accepted-tables w s ps (accepted w s ps e))
-read_same w s (refusal a b) e = refl
+  sound-of : (g : Reading) → chart w s ≡ g → read_of g ≡ Ok b → Sound b
+  sound-of (ready ps) e h = let z : tables_of (length ps) ps ≡ b = cc in rw (← z) (sound-held w s ps (accepted w s ps e))
+  sound-of (refusal why) e h = absurd (err_ok h)
 
-pub is_read : (w : Setting) (s : List ℕ) (r : Outcome) → r ≡ read_of (chart w s) → IsRead w s r
+read_same : (w : Setting) (s : List ℕ) (g : Reading) → chart w s ≡ g → read_of g ≡ answer_of g
+read_same w s (ready ps) e = ap Ok (accepted-tables w s ps (accepted w s ps e))
+read_same w s (refusal why) e = refl
+
+pub is_read : (w : Setting) (s : List ℕ) (r : Result Tables Refusal) → r ≡ read_of (chart w s) → IsRead w s r
 is_read w s r e =
-    let h : r ≡ outcome_of (chart w s) = e ∙ read_same w s (chart w s) refl in
-    record { whole = h; refused = λ a b q. ap (λ (u : Outcome). numbers_of u.answer) (h ∙ ap outcome_of q); limits = accepted w s }
+    let h : r ≡ answer_of (chart w s) = e ∙ read_same w s (chart w s) refl in
+    record { whole = h; refused = λ why q. h ∙ ap answer_of q; numbers = λ why q. ap numbers_in (h ∙ ap answer_of q); limits = accepted w s }
 
 -- what the crates above take from it
-pub reads_of : (w : Setting) (s : List ℕ) (r : Outcome) → IsRead w s r → Reads w s r
+pub reads_of : (w : Setting) (s : List ℕ) (r : Result Tables Refusal) → IsRead w s r → Reads w s r
 reads_of w s r i =
     let e : r ≡ read_of (chart w s) = i.whole ∙ sym (read_same w s (chart w s) refl) in
-    rw e (record { reads = reads-back w s (chart w s) refl; whole = refl; limits = limits_of w s (chart w s) refl; sound = sound-of w s (chart w s) refl })
-
--- ---- 12, from what is found
-pub answered-none : (b : Tables) (o : Option ℕ) (r : Outside) → r ≡ outside_of o → r ≡ Nothing → record { answer = Ready; board = b } ≡ answered b o
-answered-none b none r e h = refl
-answered-none b (some t) r e h = let z : ◌≡◌ {A = ℕ} 0 1 = cc in absurd (omega arith)
-
-pub answered-some : (b : Tables) (o : Option ℕ) (r : Outside) (t : ℕ) → r ≡ outside_of o → r ≡ Target t → read_of (refusal 12 t) ≡ answered b o
-answered-some b none r t e h = let z : ◌≡◌ {A = ℕ} 0 1 = cc in absurd (omega arith)
-answered-some b (some u) r t e h = let z : t ≡ u = cc in rw z
+    record {
+      reads = rw e (reads-back w s (chart w s) refl);
+      whole = e;
+      limits = λ b h. limits_of w s b (chart w s) refl (sym e ∙ h);
+      sound = λ b h. sound-of w s b (chart w s) refl (sym e ∙ h);
+    }
 
 -- ---- 11 and 12, from the tables
+-- a board once it is judged
+abbrev pub judged_as : Tables → Result (Unit {0}) Refusal → Result Tables Refusal
+judged_as b (Ok u) = Ok b
+judged_as b (Err why) = Err why
+
 capped-more : (k m : ℕ) → m < k → m ≤ 64 → m < capped 64 k
 capped-more k m h l = go (leb k 64)
   where
@@ -245,25 +247,23 @@ module _ (w : Setting) (s : List ℕ) (n : ℕ) (small : n ≤ 32) (qs : Board) 
   nodes-count : b.n ≡ n
   nodes-count = ap (λ (t : Tables). t.n) (tables-held n qs)
 
-  outcome : (o : Option ℕ) → answered b o ≡ read_of (judge_targets o qs)
-  outcome none = rw h.count
-  outcome (some t) = refl
+  outcome : (o : Option ℕ) → judged_as b (outside_judged o) ≡ read_of (judge_targets o qs)
+  outcome None = rw h.count
+  outcome (Some t) = refl
 
-  few-ends : ends_of qs ≤ 64 → judged_of w b ≡ read_of (judge_targets (outside_in w (targets_of qs) n) qs)
-  unfolding judged_of
+  few-ends : ends_of qs ≤ 64 → judged_as b (judged_of w b) ≡ read_of (judge_targets (outside_in w (targets_of qs) n) qs)
   few-ends m =
       let c : b.sources.count ≡ length (sources_from 0 qs) = sources-count ∙ capped-room 64 (length (sources_from 0 qs)) (omega (arith, ends-count 0 qs)) in
       let d : b.sinks.count ≡ length (sinks_from 0 qs) = sinks-count ∙ capped-room 64 (length (sinks_from 0 qs)) (omega (arith, ends-count 0 qs)) in
       let i : leb b.sources.count 64 ≡ true = le-leb b.sources.count 64 (omega (arith, ends-count 0 qs)) in
       let j : leb b.sinks.count (64 - b.sources.count) ≡ true = le-leb b.sinks.count (64 - b.sources.count) (omega (arith, ends-count 0 qs)) in
       let held : board_of (tables_of n qs) ≡ qs = rw (← h.count) (shaped-held s (omega arith) qs h.shaped (omega arith) m) in
-      rw (i, j, held) (ap (λ (m : ℕ). answered b (outside_in w (targets_of qs) m)) nodes-count ∙ outcome (outside_in w (targets_of qs) n))
+      rw (i, j, held) (ap (λ (m : ℕ). judged_as b (outside_judged (outside_in w (targets_of qs) m))) nodes-count ∙ outcome (outside_in w (targets_of qs) n))
 
-  many-ends : 64 < ends_of qs → judged_of w b ≡ read_of (refusal 11 0)
-  unfolding judged_of
+  many-ends : 64 < ends_of qs → judged_as b (judged_of w b) ≡ read_of (refusal ManyEnds)
   many-ends m = go (leb (length (sources_from 0 qs)) 64) refl
     where
-      go : (a : Bool) → leb (length (sources_from 0 qs)) 64 ≡ a → judged_of w b ≡ read_of (refusal 11 0)
+      go : (a : Bool) → leb (length (sources_from 0 qs)) 64 ≡ a → judged_as b (judged_of w b) ≡ read_of (refusal ManyEnds)
       go true e =
           let k : length (sources_from 0 qs) ≤ 64 = leb-true (length (sources_from 0 qs)) 64 e in
           let c : b.sources.count ≡ length (sources_from 0 qs) = sources-count ∙ capped-room 64 (length (sources_from 0 qs)) k in
@@ -277,32 +277,35 @@ module _ (w : Setting) (s : List ℕ) (n : ℕ) (small : n ≤ 32) (qs : Board) 
           let i : leb b.sources.count 64 ≡ false = lt-leb b.sources.count 64 (omega arith) in
           rw i
 
-  tables-judged : judged_of w b ≡ read_of (judge w s n qs at)
+  tables-judged : judged_as b (judged_of w b) ≡ read_of (judge w s n qs at)
   tables-judged = go (leb (ends_of qs) 64) refl
     where
-      go : (a : Bool) → leb (ends_of qs) 64 ≡ a → judged_of w b ≡ read_of (judge w s n qs at)
+      go : (a : Bool) → leb (ends_of qs) 64 ≡ a → judged_as b (judged_of w b) ≡ read_of (judge w s n qs at)
       go true e = rw (le-ltb at (length s) all, e) (few-ends (leb-true (ends_of qs) 64 e))
       go false e = rw (le-ltb at (length s) all, e) (many-ends (leb-false (ends_of qs) 64 e))
 
 -- ---- what the bodies' answer says of the chart
-module _ (w : Setting) (s : List ℕ) (n : ℕ) (r : Nodes) where
-  pub read-refused : (g : Got Board) → r ≡ nodes_of (empty_board n) 0 g → (r.refused ≡ 0 → ⊥) → read_of (refusal r.refused 0) ≡ read_of (judged w s n g)
-  read-refused (got qs at) e h = absurd (h (ap (λ (x : Nodes). x.refused) e))
-  read-refused (refused v) e h = rw (ap (λ (x : Nodes). x.refused) e)
+module _ (w : Setting) (s : List ℕ) (n : ℕ) (b : Tables) (r : Result ℕ Refusal) where
+  pub read-refused : (g : Got Board) → Into (nodes_into (empty_board n) 0 g) r b → (why : Refusal) → r ≡ Err why → Err why ≡ read_of (judged w s n g)
+  read-refused (got qs at) i why e = absurd (err_ok (sym e ∙ i.0))
+  read-refused (refused v) i why e = let z : why ≡ v = cc in rw z
 
-  read_trailing : (g : Got Board) → r ≡ nodes_of (empty_board n) 0 g → r.refused ≡ 0 → r.end < length s → read_of (refusal 10 0) ≡ read_of (judged w s n g)
-  read_trailing (got qs at) e h l = let i : at < length s = omega (arith, ap (λ (x : Nodes). x.end) e) in rw (lt-ltb at (length s) i)
-  read_trailing (refused v) e h l = absurd (number-some v (sym (ap (λ (x : Nodes). x.refused) e) ∙ h))
+  module _ (at : ℕ) (e : r ≡ Ok at) where
+    pub read_trailing : (g : Got Board) → Into (nodes_into (empty_board n) 0 g) r b → at < length s → Err BytesAfter ≡ read_of (judged w s n g)
+    read_trailing (got qs a) i l = let z : a ≡ at = cc in rw (z, lt-ltb at (length s) l)
+    read_trailing (refused v) i l = absurd (err_ok (sym i ∙ e))
 
-  read-judged : n ≤ 32 → (g : Got Board) → Gives g (Bodies s n (2 + 2 * n)) → r ≡ nodes_of (empty_board n) 0 g → r.refused ≡ 0 → length s ≤ r.end → judged_of w r.board ≡ read_of (judged w s n g)
-  unfolding tables_of
-  read-judged small (got qs at) f e h l =
-      ap (λ (x : Nodes). judged_of w x.board) e ∙ tables-judged w s n small qs at f (omega (arith, ap (λ (x : Nodes). x.end) e))
-  read-judged small (refused v) f e h l = absurd (number-some v (sym (ap (λ (x : Nodes). x.refused) e) ∙ h))
+    module _ (small : n ≤ 32) (l : length s ≤ at) where
+      whole-judged : (g : Got Board) → Gives g (Bodies s n (2 + 2 * n)) → Into (nodes_into (empty_board n) 0 g) r b → (v : Result (Unit {0}) Refusal) → judged_of w b ≡ v → judged_as b v ≡ read_of (judged w s n g)
+      unfolding tables_of
+      whole-judged (got qs a) f i v q =
+          let z : a ≡ at = cc in
+          let m : length s ≤ a = omega arith in
+          rw (← q, i.1) (tables-judged w s n small qs a f m)
+      whole-judged (refused x) f i v q = absurd (err_ok (sym i ∙ e))
 
-  pub read-closed : n ≤ 32 → (g : Got Board) → Gives g (Bodies s n (2 + 2 * n)) → r ≡ nodes_of (empty_board n) 0 g → r.refused ≡ 0 → closed_of w r (length s) ≡ read_of (judged w s n g)
-  read-closed small g f e h = go (ltb r.end (length s)) refl
-    where
-      go : (a : Bool) → ltb r.end (length s) ≡ a → cond a (read_of (refusal 10 0)) (judged_of w r.board) ≡ read_of (judged w s n g)
-      go true z = read_trailing g e h (ltb-true r.end (length s) z)
-      go false z = read-judged small g f e h (ltb-false r.end (length s) z)
+      pub read-judged : (g : Got Board) → Gives g (Bodies s n (2 + 2 * n)) → Into (nodes_into (empty_board n) 0 g) r b → judged_of w b ≡ Ok tt → Ok b ≡ read_of (judged w s n g)
+      read-judged g f i q = whole-judged g f i (Ok tt) q
+
+      pub read-unjudged : (g : Got Board) → Gives g (Bodies s n (2 + 2 * n)) → Into (nodes_into (empty_board n) 0 g) r b → (why : Refusal) → judged_of w b ≡ Err why → Err why ≡ read_of (judged w s n g)
+      read-unjudged g f i why q = whole-judged g f i (Err why) q

@@ -5,7 +5,7 @@ use native.Mathlib.Omega.{arith}
 use native.Mathlib.Numerals.{add-one}
 use native.Mathlib.Nat.{div-add-mod', mod-lt}
 use mathlib.Core.Path.{◌≡◌, refl, ap, sym, ◌∙◌}
-use mathlib.Core.Option.{none}
+use Rattle.std.specs.Prelude.{None}
 use mathlib.Core.Bool.{true}
 use mathlib.Core.List.{List, [], ◌∷◌, ◌++◌, append_assoc, append-nil}
 use lib.Dec.{leb}
@@ -150,7 +150,7 @@ first_past : (n at : ℕ) (xs : List Written) (ts : List ℕ) → All (EndWithin
 first_past n at [] ts a = refl
 first_past n at (x ∷ xs) ts a = rw (lt-ltb x.to n (a.0.target refl)) (first_past n (at + length (end_bytes x)) xs ts a.1)
 
-none-outside : (n at : ℕ) (ps : List Drawn) → All (NodeWithin Strict n) ps → first_outside (targets_of (placed body_bytes place_node at ps)) n ≡ none
+none-outside : (n at : ℕ) (ps : List Drawn) → All (NodeWithin Strict n) ps → first_outside (targets_of (placed body_bytes place_node at ps)) n ≡ None
 none-outside n at [] a = refl
 none-outside n at (p ∷ ps) a =
     let q = place_node at p in
@@ -160,7 +160,7 @@ none-outside n at (p ∷ ps) a =
     ∙ first_past n (at + 3) p.sources ts a.0.sources
     ∙ none-outside n (at + length (body_bytes p)) ps a.1)
 
-none_in : (v : Setting) (n at : ℕ) (ps : List Drawn) → All (NodeWithin v n) ps → outside_in v (targets_of (placed body_bytes place_node at ps)) n ≡ none
+none_in : (v : Setting) (n at : ℕ) (ps : List Drawn) → All (NodeWithin v n) ps → outside_in v (targets_of (placed body_bytes place_node at ps)) n ≡ None
 none_in Default n at ps a = refl
 none_in Strict n at ps a = none-outside n at ps a
 

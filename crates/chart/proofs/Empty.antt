@@ -3,6 +3,7 @@
 use Prim.Native.Nat.{ℕ}
 use mathlib.Core.Path.{◌≡◌, refl}
 use mathlib.Core.List.{[], ◌∷◌}
+use Rattle.refusals.specs.declared.Refusal.TheVariants.{OneByte}
 use Rattle.chart.specs.declared.Setting.{Setting}
 use Rattle.chart.specs.declared.Setting.TheVariants.{Default, Strict}
 use Rattle.chart.specs.Chart.{refusal, chart}
@@ -14,6 +15,6 @@ empty-chart Default = refl
 empty-chart Strict = refl
 
 -- 'Refusal 1 is left for a chart of one byte.'
-pub one_byte : (w : Setting) (b : ℕ) → chart w (b ∷ []) ≡ refusal 1 0
+pub one_byte : (w : Setting) (b : ℕ) → chart w (b ∷ []) ≡ refusal OneByte
 unfolding chart
 one_byte w b = refl

@@ -11,7 +11,8 @@ use lib.Dec.{eqb, leb, ltb}
 use lib.ListN.{length, get_or, take, drop}
 use lib.Seq.{drop-cons}
 use borrow.Author.Tests.{ltb-true, leb-true, eqb-true, ne_eqb}
-use Rattle.chart.specs.Chart.{Part, Node, Counts, Board, ends_of, Refusal, Got, got, refused, ◌then◌, byte, many, is_text, text_byte, characters, text, end, counts, body, entry, bodies, byte_c2, byte_b0}
+use Rattle.chart.specs.Chart.{Part, Node, Counts, Board, ends_of, Got, got, refused, ◌then◌, byte, many, is_text, text_byte, characters, text, end, counts, body, entry, bodies, byte_c2, byte_b0}
+use Rattle.refusals.specs.declared.Refusal.{Refusal}
 use Rattle.chart.specs.Text.{Texted, empty, plain, degree, characters_in, character_bytes, ending}
 use Rattle.laws.specs.Lists.{All}
 use Rattle.chart.specs.Accepted.{Fitting, EndFits}

@@ -9,61 +9,49 @@ use mathlib.Core.List.{List, [], ◌∷◌, ◌++◌, map, append_assoc, append-
 use lib.Dec.{ltb}
 use lib.ListN.{length, length-append, length-map}
 use borrow.Author.Tests.{le-ltb, ltb-true, ltb-false}
+use Rattle.tables.specs.declared.Table.{Table}
 use Rattle.chart.specs.declared.Item.{Item}
-use Rattle.chart.specs.declared.Table.{Table}
+use Rattle.chart.specs.Tables.{Items}
 use Rattle.chart.specs.declared.Line.{Line}
-use Rattle.chart.specs.declared.Lines.{Lines}
+use Rattle.chart.specs.Tables.{Lines}
 use Rattle.chart.specs.declared.Board.{Board as Tables}
 use Rattle.chart.specs.Chart.{Part, End, Node, Board, ends_of}
 use Rattle.chart.specs.Tables.{no_item, no_line, item_of, line_of, sources_from, lines_from, sinks_from, board_tables}
-use Rattle.chart.specs.code.Filled.{end_of, part_of, items_of, lines_of, node_of, board_from, board_of, pushed, pushed_line, push_all, push_lines, with_nodes, tables_of}
+use Rattle.chart.specs.code.Filled.{end_of, part_of, items_of, lines_of, node_of, board_from, board_of, pushed, push_all, with_nodes, tables_of}
 use Rattle.laws.specs.Lists.{All, one, padded, capped}
 use Rattle.laws.proofs.Lists.{length-one, all_map, tabulate_list, owned-flat, padded-set, padded-full, take-padded, capped-room, capped-full, capped-past}
 
-abbrev pub table_of : List Item → Table
-table_of xs = record { items = padded 64 no_item xs; count = capped 64 (length xs) }
+-- an array of m that holds the records from its start, and z past them; a count past the array is m + 1
+abbrev pub held : {A : Type 0} (m : ℕ) → A → List A → Table A m
+held m z xs = record { items = padded m z xs; count = capped m (length xs) }
 
-abbrev pub lines_held : List Line → Lines
-lines_held xs = record { items = padded 128 no_line xs; count = capped 128 (length xs) }
+module _ {A : Type 0} (m : ℕ) (z : A) where
+  pushed-held : (xs : List A) (x : A) → pushed (held m z xs) x ≡ held m z (xs ++ one x)
+  pushed-held xs x = go (ltb (length xs) m) refl
+    where
+      go : (b : Bool) → ltb (length xs) m ≡ b → pushed (held m z xs) x ≡ held m z (xs ++ one x)
+      go true e =
+          let l : length xs < m = ltb-true (length xs) m e in
+          let a : capped m (length xs) ≡ length xs = capped-room m (length xs) (omega arith) in
+          let b : capped m (length (xs ++ one x)) ≡ length xs + 1 = capped-room m (length (xs ++ one x)) (omega (arith, length-one xs x)) ∙ length-one xs x in
+          rw (a, b, e, padded-set m z xs x)
+      go false e =
+          let l : m ≤ length xs = ltb-false (length xs) m e in
+          let a : ltb (capped m (length xs)) m ≡ false = le-ltb (capped m (length xs)) m (capped-past m (length xs) l) in
+          let b : capped m (length (xs ++ one x)) ≡ m + 1 = capped-full m (length (xs ++ one x)) (omega (arith, length-one xs x)) in
+          rw (a, b, padded-full m z xs x l)
 
-pushed-table : (xs : List Item) (x : Item) → pushed (table_of xs) x ≡ table_of (xs ++ one x)
-pushed-table xs x = go (ltb (length xs) 64) refl
-  where
-    go : (b : Bool) → ltb (length xs) 64 ≡ b → pushed (table_of xs) x ≡ table_of (xs ++ one x)
-    go true e =
-        let l : length xs < 64 = ltb-true (length xs) 64 e in
-        let a : capped 64 (length xs) ≡ length xs = capped-room 64 (length xs) (omega arith) in
-        let b : capped 64 (length (xs ++ one x)) ≡ length xs + 1 = capped-room 64 (length (xs ++ one x)) (omega (arith, length-one xs x)) ∙ length-one xs x in
-        rw (a, b, e, padded-set 64 no_item xs x)
-    go false e =
-        let l : 64 ≤ length xs = ltb-false (length xs) 64 e in
-        let a : ltb (capped 64 (length xs)) 64 ≡ false = le-ltb (capped 64 (length xs)) 64 (capped-past 64 (length xs) l) in
-        let b : capped 64 (length (xs ++ one x)) ≡ 65 = capped-full 64 (length (xs ++ one x)) (omega (arith, length-one xs x)) in
-        rw (a, b, padded-full 64 no_item xs x l)
-
-pushed-lines : (xs : List Line) (x : Line) → pushed_line (lines_held xs) x ≡ lines_held (xs ++ one x)
-pushed-lines xs x = go (ltb (length xs) 128) refl
-  where
-    go : (b : Bool) → ltb (length xs) 128 ≡ b → pushed_line (lines_held xs) x ≡ lines_held (xs ++ one x)
-    go true e =
-        let l : length xs < 128 = ltb-true (length xs) 128 e in
-        let a : capped 128 (length xs) ≡ length xs = capped-room 128 (length xs) (omega arith) in
-        let b : capped 128 (length (xs ++ one x)) ≡ length xs + 1 = capped-room 128 (length (xs ++ one x)) (omega (arith, length-one xs x)) ∙ length-one xs x in
-        rw (a, b, e, padded-set 128 no_line xs x)
-    go false e =
-        let l : 128 ≤ length xs = ltb-false (length xs) 128 e in
-        let a : ltb (capped 128 (length xs)) 128 ≡ false = le-ltb (capped 128 (length xs)) 128 (capped-past 128 (length xs) l) in
-        let b : capped 128 (length (xs ++ one x)) ≡ 129 = capped-full 128 (length (xs ++ one x)) (omega (arith, length-one xs x)) in
-        rw (a, b, padded-full 128 no_line xs x l)
+  -- the records of a node, one after the other
+  push-all : {W : Type 0} (make : W → A) (xs : List A) (es : List W) → push_all make (held m z xs) es ≡ held m z (xs ++ map make es)
+  push-all make xs [] = rw (append-nil xs)
+  push-all make xs (e ∷ es) = rw (pushed-held xs (make e)) (push-all make (xs ++ one (make e)) es ∙ ap (held m z) (append_assoc xs (one (make e)) (map make es)))
 
 -- ---- the records of a board, node after node
-push-all : (xs : List Item) (p : ℕ) (es : List End) → push_all (table_of xs) p es ≡ table_of (xs ++ map (item_of p) es)
-push-all xs p [] = rw (append-nil xs)
-push-all xs p (e ∷ es) = rw (pushed-table xs (item_of p e)) (push-all (xs ++ one (item_of p e)) p es ∙ ap table_of (append_assoc xs (one (item_of p e)) (map (item_of p) es)))
+abbrev pub table_of : List Item → Items
+table_of = held 64 no_item
 
-push-lines : (xs : List Line) (p : ℕ) (es : List Part) → push_lines (lines_held xs) p es ≡ lines_held (xs ++ map (line_of p) es)
-push-lines xs p [] = rw (append-nil xs)
-push-lines xs p (e ∷ es) = rw (pushed-lines xs (line_of p e)) (push-lines (xs ++ one (line_of p e)) p es ∙ ap lines_held (append_assoc xs (one (line_of p e)) (map (line_of p) es)))
+abbrev pub lines_held : List Line → Lines
+lines_held = held 128 no_line
 
 abbrev pub held_in : ℕ → List Item → List Line → List Item → Tables
 held_in n xs ls ys = record { n = n; sources = table_of xs; lines = lines_held ls; sinks = table_of ys }
@@ -72,7 +60,7 @@ with-nodes : (n : ℕ) (xs : List Item) (ls : List Line) (ys : List Item) (p : �
     → with_nodes (held_in n xs ls ys) p qs ≡ held_in n (xs ++ sources_from p qs) (ls ++ lines_from p qs) (ys ++ sinks_from p qs)
 with-nodes n xs ls ys p [] = rw (append-nil xs, append-nil ls, append-nil ys)
 with-nodes n xs ls ys p (q ∷ qs) =
-    rw (push-all xs p q.sources, push-lines ls p q.lines, push-all ys p q.sinks)
+    rw (push-all 64 no_item (item_of p) xs q.sources, push-all 128 no_line (line_of p) ls q.lines, push-all 64 no_item (item_of p) ys q.sinks)
     (with-nodes n (xs ++ map (item_of p) q.sources) (ls ++ map (line_of p) q.lines) (ys ++ map (item_of p) q.sinks) (suc p) qs
     ∙ rw (append_assoc xs (map (item_of p) q.sources) (sources_from (suc p) qs), append_assoc ls (map (line_of p) q.lines) (lines_from (suc p) qs), append_assoc ys (map (item_of p) q.sinks) (sinks_from (suc p) qs)))
 

@@ -1,76 +1,63 @@
 -- The readers' answers: one turn of each loop, and what an answer says of the reading behind it.
 -- Assumes nothing.
-use Prim.Native.Nat.{ℕ, zero, suc, ◌+◌, ◌-◌, ◌%◌, ◌≤◌, ◌<◌}
+use Prim.Native.Nat.{ℕ, zero, suc, ◌+◌, ◌-◌, ◌≤◌, ◌<◌}
 use native.Mathlib.Omega.{arith}
 use native.Mathlib.Numerals.{add-one}
-use mathlib.Core.Path.{◌≡◌, refl, ap, sym, ◌∙◌}
-use mathlib.Core.Bool.{Bool, true, false}
+use mathlib.Core.Path.{◌≡◌, refl, sym, ◌∙◌}
+use mathlib.Core.Bool.{Bool, true, false, cond}
 use mathlib.Core.List.{List, ◌∷◌}
 use lib.Dec.{eqb, ltb}
 use lib.ListN.{length, get_or}
-use borrow.Author.Tests.{lt-ltb, le-ltb, ltb-false, le-leb, lt-leb, eq-eqb, ne_eqb}
-use Rattle.chart.specs.declared.reader.Step.{Step}
-use Rattle.chart.specs.declared.reader.Skip.{Skip}
-use Rattle.chart.specs.declared.reader.Span.{Span}
-use Rattle.chart.specs.Chart.{Part, End, Node, Counts, Board, Refusal, misplaced, cut_body, many_lines, long_text, not_text, number_of, Got, got, refused, ◌then◌, byte, many, is_text, characters, text, end, items, counts, body, bodies, entry, byte_c2, byte_b0}
-use Rattle.chart.specs.declared.reader.End.{End as EndRead}
+use borrow.Author.Tests.{le-ltb, ltb-true, ltb-false, eq-eqb, ne_eqb}
+use Rattle.std.specs.Prelude.{Result, Ok, Err}
+use Rattle.refusals.specs.declared.Refusal.{Refusal}
+use Rattle.refusals.specs.declared.Refusal.TheVariants.{Misplaced, CutBody}
 use Rattle.laws.proofs.Lists.{one_more}
-use Rattle.chart.specs.declared.Item.{Item}
-use Rattle.chart.specs.declared.Table.{Table}
-use Rattle.chart.specs.declared.Line.{Line}
-use Rattle.chart.specs.declared.Lines.{Lines}
 use Rattle.chart.specs.declared.Board.{Board as Tables}
+use Rattle.chart.specs.declared.reader.Read.{Read}
 use Rattle.chart.specs.declared.reader.Counts.{Counts as CountsRead}
-use Rattle.chart.specs.declared.reader.Ends.{Ends}
-use Rattle.chart.specs.declared.reader.Texts.{Texts}
-use Rattle.chart.specs.declared.reader.Nodes.{Nodes}
-use Rattle.chart.specs.Tables.{item_of, line_of}
-use Rattle.chart.specs.code.Filled.{empty_table, empty_lines, empty_board, pushed, pushed_line, push_all, push_lines, with_node}
-use Rattle.chart.specs.code.Steps.{character_at, step_of, skip_of, span_of, end_of, ends_of, texts_of, counts_of, items_read, node_of, nodes_of, skips, reads-ends, reads-texts}
-use Rattle.chart.proofs.Gives.{Gives, gives_then, gives_if, gives_or, gives_unless, Byte, byte-gives, low-no-sign, text-no-sign}
+use Rattle.chart.specs.Chart.{End, Node, Board, Got, got, refused, ◌then◌, byte, many, is_text, characters, text, end, items, counts, body, bodies, entry, byte_c2, byte_b0}
+use Rattle.tables.specs.declared.Table.{Table}
+use Rattle.tables.specs.Tables.{pushed_if}
+use Rattle.chart.specs.Tables.{Items, Lines, item_of, line_of}
+use Rattle.chart.specs.code.Filled.{pushed, push_all, with_node}
+use Rattle.chart.specs.code.Steps.{character_at, bytes_read, read_as, count_read, counts_read, Into, all_into, node_into, nodes_into}
+use Rattle.chart.proofs.Gives.{Gives, gives_then, gives_if, gives_or, gives_unless, Byte, byte-gives, text-no-sign}
 
--- a refusal's number is not 0
-pub number-some : (r : Refusal) → number_of r ≡ 0 → ⊥
-number-some misplaced e = omega arith
-number-some cut_body e = omega arith
-number-some many_lines e = omega arith
-number-some long_text e = omega arith
-number-some not_text e = omega arith
+-- ---- what an answer says of the reading behind it
+err_ok : {A : Type 0} {why : Refusal} {x : A} → Err why ≡ Ok x → ⊥
+err_ok e = let z : ◌≡◌ {A = ℕ} 0 1 = cc in omega arith
+
+pub bytes_refused : (g : Got ℕ) (why : Refusal) → bytes_read g ≡ Err why → g ≡ refused why
+bytes_refused (got n at) why e = absurd (err_ok (sym e))
+bytes_refused (refused r) why e = let z : r ≡ why = cc in rw z
+
+pub bytes_got : (g : Got ℕ) (n : ℕ) → bytes_read g ≡ Ok n → (at : ℕ) × (g ≡ got n at)
+bytes_got (got m at) n e = let z : m ≡ n = cc in (at, rw z)
+bytes_got (refused r) n e = absurd (err_ok e)
+
+pub byte_inside : (s : List ℕ) (at b : ℕ) → bytes_read (byte s at) ≡ Ok b → at < length s
+byte_inside s at b e = go (ltb at (length s)) refl e
+  where
+    go : (x : Bool) → ltb at (length s) ≡ x → bytes_read (cond x (got (get_or s at 0) (at + 1)) (refused CutBody)) ≡ Ok b → at < length s
+    go true h q = ltb-true at (length s) h
+    go false h q = absurd (err_ok q)
+
+module _ {A B : Type 0} (f : A → B) where
+  pub read-refused : (g : Got A) (why : Refusal) → read_as f g ≡ Err why → g ≡ refused why
+  read-refused (got x at) why e = absurd (err_ok (sym e))
+  read-refused (refused r) why e = let z : r ≡ why = cc in rw z
+
+  pub record Was (g : Got A) (r : Read B) : Type 0 where
+    pub value : A
+    pub is : g ≡ got value r.end
+    pub same : r.value ≡ f value
+
+  pub read-got : (g : Got A) (r : Read B) → read_as f g ≡ Ok r → Was g r
+  read-got (got x at) r e = let z : record { value = f x; end = at } ≡ r = cc in rw (← z) (record { value = x; is = refl; same = refl })
+  read-got (refused w) r e = absurd (err_ok e)
 
 -- ---- characters
--- the next one, by the tests
-module _ (left : ℕ) (s : List ℕ) (at : ℕ) where
-  pub step_cut : length s ≤ at → character_at left s at ≡ refused cut_body
-  step_cut h = rw (le-ltb at (length s) h)
-
-  module _ (h : at < length s) where
-    abbrev first : ℕ
-    first = get_or s at 0
-
-    pub step-low : first < 32 → character_at left s at ≡ refused not_text
-    step-low l = rw (lt-ltb at (length s) h, low-no-sign first (omega arith), lt-leb 32 first l)
-
-    pub step-text : 32 ≤ first → first ≤ 126 → character_at left s at ≡ got 1 (at + 1)
-    step-text l m = rw (lt-ltb at (length s) h, low-no-sign first m, le-leb 32 first l, le-leb first 126 m)
-
-    pub step-high : 32 ≤ first → 126 < first → (first ≡ byte_c2 → ⊥) → character_at left s at ≡ refused not_text
-    step-high l m n = rw (lt-ltb at (length s) h, ne_eqb first byte_c2 n, le-leb 32 first l, lt-leb first 126 m)
-
-    module _ (e : first ≡ byte_c2) where
-      pub step-last : left < 2 → character_at left s at ≡ refused not_text
-      step-last l = rw (lt-ltb at (length s) h, eq-eqb first byte_c2 e, lt-ltb left 2 l)
-
-      module _ (l : 2 ≤ left) where
-        pub step_gone : length s ≤ at + 1 → character_at left s at ≡ refused cut_body
-        step_gone g = rw (lt-ltb at (length s) h, eq-eqb first byte_c2 e, le-ltb left 2 l, le-ltb (at + 1) (length s) g)
-
-        module _ (g : at + 1 < length s) where
-          pub step-alone : (get_or s (at + 1) 0 ≡ byte_b0 → ⊥) → character_at left s at ≡ refused not_text
-          step-alone n = rw (lt-ltb at (length s) h, eq-eqb first byte_c2 e, le-ltb left 2 l, lt-ltb (at + 1) (length s) g, ne_eqb (get_or s (at + 1) 0) byte_b0 n)
-
-          pub step-sign : get_or s (at + 1) 0 ≡ byte_b0 → character_at left s at ≡ got 2 (at + 1 + 1)
-          step-sign n = rw (lt-ltb at (length s) h, eq-eqb first byte_c2 e, le-ltb left 2 l, lt-ltb (at + 1) (length s) g, eq-eqb (get_or s (at + 1) 0) byte_b0 n)
-
 -- the first of some characters, which have so many bytes together, and the others
 abbrev first-of : ℕ → List ℕ → Got ℕ → Got ℕ
 first-of left s g = g then λ n at. characters (left - n) s at then λ m end. got (suc m) end
@@ -135,230 +122,162 @@ character_gives left s at h =
     (λ v. record { after = omega (arith, i.after, j.after); inside = j.inside; some = omega arith; fits = ltb-false left 2 u }))))
     (λ t. gives_if (is_text b) (got 1 e) _ (Sized s at left) (λ u. record { after = i.after; inside = i.inside; some = omega arith; fits = omega arith })))
 
-skip_suc : (n : ℕ) (g : Got ℕ) → skip_of ((g then λ m end. got (suc m) end) then λ m end. got (n + m) end) ≡ skip_of (g then λ m end. got (n + 1 + m) end)
+-- what is read after n characters
+abbrev pub skips : ℕ → List ℕ → ℕ → ℕ → Result (Read ℕ) Refusal
+skips n s at k = read_as count_read (characters k s at then λ m end. got (n + m) end)
+
+skip_suc : (n : ℕ) (g : Got ℕ) → read_as count_read ((g then λ m end. got (suc m) end) then λ m end. got (n + m) end) ≡ read_as count_read (g then λ m end. got (n + 1 + m) end)
 skip_suc n (got m at) = let z : n + suc m ≡ n + 1 + m = omega arith in rw z
 skip_suc n (refused r) = refl
 
-module _ (n : ℕ) (s : List ℕ) (at left : ℕ) (r : Step) where
-  step-refused : (g : Got ℕ) → r ≡ step_of g → (r.refused ≡ 0 → ⊥) → skip_of (first-of left s g then λ m end. got (n + m) end) ≡ record { refused = r.refused; len = 0; end = 0 }
-  step-refused (got x a) e h = absurd (h (ap (λ (x : Step). x.refused) e))
-  step-refused (refused w) e h = rw e
+module _ (n : ℕ) (s : List ℕ) (at left : ℕ) (h : 0 < left) where
+  pub skip-refused : (why : Refusal) → bytes_read (character_at left s at) ≡ Err why → skips n s at left ≡ Err why
+  skip-refused why e = rw (first_character left s at h, bytes_refused (character_at left s at) why e)
 
-  step-on : (g : Got ℕ) → Gives g (Sized s at left) → r ≡ step_of g → r.refused ≡ 0 → skip_of (first-of left s g then λ m end. got (n + m) end) ≡ skips (n + 1) s (at + r.bytes) (left - r.bytes)
-  step-on (got x a) p e h = rw (e, p.after) (skip_suc n (characters (left - x) s (at + x)))
-  step-on (refused w) p e h = absurd (number-some w (sym (ap (λ (x : Step). x.refused) e) ∙ h))
+  module _ (b : ℕ) (e : bytes_read (character_at left s at) ≡ Ok b) where
+    pub skip_sized : Sized s at left b (at + b)
+    skip_sized = go (character_at left s at) e (character_gives left s at h)
+      where
+        go : (g : Got ℕ) → bytes_read g ≡ Ok b → Gives g (Sized s at left) → Sized s at left b (at + b)
+        go (got m a) q p = let z : m ≡ b = cc in rw (← z, ← p.after) p
+        go (refused r) q p = absurd (err_ok q)
 
-  step_sized : (g : Got ℕ) → Gives g (Sized s at left) → r ≡ step_of g → r.refused ≡ 0 → Sized s at left r.bytes (at + r.bytes)
-  step_sized (got x a) p e h = rw (e, ← p.after) p
-  step_sized (refused w) p e h = absurd (number-some w (sym (ap (λ (x : Step). x.refused) e) ∙ h))
-
-  module _ (h : 0 < left) (e : r ≡ step_of (character_at left s at)) where
-    pub skip-refused : (r.refused ≡ 0 → ⊥) → skips n s at left ≡ record { refused = r.refused; len = 0; end = 0 }
-    skip-refused o = rw (first_character left s at h) (step-refused (character_at left s at) e o)
-
-    pub skip-on : r.refused ≡ 0 → skips n s at left ≡ skips (n + 1) s (at + r.bytes) (left - r.bytes)
-    skip-on o = rw (first_character left s at h) (step-on (character_at left s at) (character_gives left s at h) e o)
-
-    pub skip_sized : r.refused ≡ 0 → Sized s at left r.bytes (at + r.bytes)
-    skip_sized o = step_sized (character_at left s at) (character_gives left s at h) e o
+    pub skip-on : skips n s at left ≡ skips (n + 1) s (at + b) (left - b)
+    skip-on = rw (first_character left s at h) (go (character_at left s at) e (character_gives left s at h))
+      where
+        go : (g : Got ℕ) → bytes_read g ≡ Ok b → Gives g (Sized s at left) → read_as count_read (first-of left s g then λ m end. got (n + m) end) ≡ skips (n + 1) s (at + b) (left - b)
+        go (got m a) q p = let z : m ≡ b = cc in rw (p.after, z) (skip_suc n (characters (left - b) s (at + b)))
+        go (refused r) q p = absurd (err_ok q)
 
 -- from the first character on, and none
-skip-none : (g : Got ℕ) → skip_of (g then λ m end. got (0 + m) end) ≡ skip_of g
+skip-none : (g : Got ℕ) → read_as count_read (g then λ m end. got (0 + m) end) ≡ read_as count_read g
 skip-none (got m at) = let z : 0 + m ≡ m = omega arith in rw z
 skip-none (refused r) = refl
 
-pub skip_all : (s : List ℕ) (at k : ℕ) → skips 0 s at k ≡ skip_of (characters k s at)
+pub skip_all : (s : List ℕ) (at k : ℕ) → skips 0 s at k ≡ read_as count_read (characters k s at)
 skip_all s at k = skip-none (characters k s at)
 
-pub skip-end : (n : ℕ) (s : List ℕ) (at left : ℕ) → left ≡ 0 → record { refused = 0; len = n; end = at } ≡ skips n s at left
+pub skip-end : (n : ℕ) (s : List ℕ) (at left : ℕ) → left ≡ 0 → Ok (record { value = n; end = at }) ≡ skips n s at left
 skip-end n s at left e = let z : n + 0 ≡ n = omega arith in rw (e, z)
 
--- ---- a text
--- what a skip says of the text that it belongs to
-abbrev spanned : ℕ → Got ℕ → Got Part
-spanned begin g = g then λ n end. got (record { at = begin; len = n }) end
+-- ---- what is read into lent tables
+pub into-refused : {A : Type 0} (g : Got A) (why : Refusal) (r : Result ℕ Refusal) (v : A) → g ≡ refused why → r ≡ Err why → Into g r v
+into-refused g why r v e f = rw e f
 
--- by the tests: the length byte counts bytes
-module _ (s : List ℕ) (at : ℕ) where
-  pub text-cut : length s ≤ at → text s at ≡ refused cut_body
-  text-cut h = rw (le-ltb at (length s) h)
+pub into-got : {A : Type 0} (g : Got A) (at : ℕ) (v : A) → g ≡ got v at → Into g (Ok at) v
+into-got g at v e = rw e (refl, refl)
 
-  module _ (h : at < length s) where
-    pub text-long : 24 < get_or s at 0 → text s at ≡ refused long_text
-    text-long l = rw (lt-ltb at (length s) h, lt-leb (get_or s at 0) 24 l)
+-- ---- items of one kind, put into a table
+module _ {A W B : Type 0} {m : ℕ} (read : ℕ → Got W) (f : W → B) (make : W → A) where
+  -- what k more items give, of which the first stands at this place
+  abbrev pub left_into : Table A m → ℕ → ℕ → Got (Table A m)
+  left_into t at k = all_into make t (many k read at)
 
-    pub text-from : get_or s at 0 ≤ 24 → text s at ≡ spanned (at + 1) (characters (get_or s at 0) s (at + 1))
-    text-from l = rw (lt-ltb at (length s) h, le-leb (get_or s at 0) 24 l)
+  cons_into : (t : Table A m) (x : W) (g : Got (List W)) → all_into make t (g then λ xs end. got (x ∷ xs) end) ≡ all_into make (pushed t (make x)) g
+  cons_into t x (got xs at) = refl
+  cons_into t x (refused r) = refl
 
-pub span-refused : (begin : ℕ) (g : Got ℕ) (r : Skip) → r ≡ skip_of g → (r.refused ≡ 0 → ⊥) → record { refused = r.refused; at = 0; len = 0; end = 0 } ≡ span_of (spanned begin g)
-span-refused begin (got n at) r e h = absurd (h (ap (λ (x : Skip). x.refused) e))
-span-refused begin (refused n) r e h = rw e
+  module _ (t : Table A m) (at left : ℕ) (h : 0 < left) where
+    pub left-refused : (why : Refusal) → read_as f (read at) ≡ Err why → left_into t at left ≡ refused why
+    left-refused why e = one_more (left_into t at) left h ∙ rw (read-refused f (read at) why e)
 
-pub span-read : (begin : ℕ) (g : Got ℕ) (r : Skip) → r ≡ skip_of g → r.refused ≡ 0 → record { refused = 0; at = begin; len = r.len; end = r.end } ≡ span_of (spanned begin g)
-span-read begin (got n at) r e h = rw e
-span-read begin (refused n) r e h = absurd (number-some n (sym (ap (λ (x : Skip). x.refused) e) ∙ h))
+    -- the first is read, and its record pushed
+    pub left-on : (r : Read B) → read_as f (read at) ≡ Ok r → (y : A) → ((x : W) → r.value ≡ f x → y ≡ make x) → (u : Table A m) → u ≡ pushed t y
+        → left_into u r.end (left - 1) ≡ left_into t at left
+    left-on r e y g u q = go (read-got f (read at) r e)
+      where
+        go : Was f (read at) r → left_into u r.end (left - 1) ≡ left_into t at left
+        go w = rw (q, g w.value w.same) (sym (one_more (left_into t at) left h ∙ rw w.is (cons_into t w.value (many (left - 1) read r.end))))
 
--- ---- a source or a sink
-abbrev ended : ℕ → Got Part → Got End
-ended to g = g then λ t at. got (record { to = to; text = t }) at
+  pub left-none : (t : Table A m) (at left : ℕ) → left ≡ 0 → left_into t at left ≡ got t at
+  left-none t at left e = rw e
 
-pub end_refused : (to : ℕ) (g : Got Part) (r : Span) → r ≡ span_of g → (r.refused ≡ 0 → ⊥) → record { refused = r.refused; to = 0; at = 0; len = 0; end = 0 } ≡ end_of (ended to g)
-end_refused to (got t at) r e h = absurd (h (ap (λ (x : Span). x.refused) e))
-end_refused to (refused n) r e h = rw e
+-- the table after a push, with room and without
+pub push-room : {A : Type 0} {m : ℕ} (t u : Table A m) (x : A) (b : Bool) → b ≡ ltb t.count m → u ≡ pushed_if b t x → b ≡ true → u ≡ pushed t x
+push-room t u x b e q h = rw (q, h) (let z = sym e ∙ h in rw z)
 
-pub end_read : (to : ℕ) (g : Got Part) (r : Span) → r ≡ span_of g → r.refused ≡ 0 → record { refused = 0; to = to; at = r.at; len = r.len; end = r.end } ≡ end_of (ended to g)
-end_read to (got t at) r e h = rw e
-end_read to (refused n) r e h = absurd (number-some n (sym (ap (λ (x : Span). x.refused) e) ∙ h))
+pub push-past : {A : Type 0} {m : ℕ} (t u : Table A m) (x : A) (b : Bool) → b ≡ ltb t.count m → u ≡ pushed_if b t x → b ≡ false → record { items = u.items; count = m + 1 } ≡ pushed t x
+push-past t u x b e q h = rw (q, h) (let z = sym e ∙ h in rw z)
 
--- ---- sources or sinks
-ends_cons : (t : Table) (p : ℕ) (x : End) (g : Got (List End)) → ends_of t p (g then λ xs end. got (x ∷ xs) end) ≡ ends_of (pushed t (item_of p x)) p g
-ends_cons t p x (got xs at) = refl
-ends_cons t p x (refused r) = refl
+-- ---- a body
+module _ {A W : Type 0} {m : ℕ} (make : W → A) (t : Table A m) where
+  pub record Pushes (g : Got (List W)) (at : ℕ) (v : Table A m) : Type 0 where
+    pub all : List W
+    pub is : g ≡ got all at
+    pub table : v ≡ push_all make t all
 
--- the first of suc k ends, and the others
-abbrev first-end : ℕ → List ℕ → Got End → Got (List End)
-first-end k s g = g then λ x at. many k (end s) at then λ xs end. got (x ∷ xs) end
+  pub pushes : (g : Got (List W)) (at : ℕ) (v : Table A m) (r : Result ℕ Refusal) → Into (all_into make t g) r v → r ≡ Ok at → Pushes g at v
+  pushes (got es a) at v r i e = let z : a ≡ at = cc in record { all = es; is = rw z; table = i.1 }
+  pushes (refused w) at v r i e = absurd (err_ok (sym i ∙ e))
 
-first-refused : (t : Table) (p : ℕ) (s : List ℕ) (k : ℕ) (g : Got End) (r : EndRead) → r ≡ end_of g → (r.refused ≡ 0 → ⊥)
-    → ends_of t p (first-end k s g) ≡ record { refused = r.refused; end = 0; table = empty_table }
-first-refused t p s k (got e at) r q h = absurd (h (ap (λ (x : EndRead). x.refused) q))
-first-refused t p s k (refused n) r q h = rw q
+  pub pushed-none : (g : Got (List W)) (why : Refusal) (v : Table A m) (r : Result ℕ Refusal) → Into (all_into make t g) r v → r ≡ Err why → g ≡ refused why
+  pushed-none (got es a) why v r i e = absurd (err_ok (sym e ∙ i.0))
+  pushed-none (refused w) why v r i e = let z : w ≡ why = cc in rw z
 
-first_on : (t : Table) (p : ℕ) (s : List ℕ) (k : ℕ) (g : Got End) (r : EndRead) → r ≡ end_of g → r.refused ≡ 0
-    → ends_of t p (first-end k s g) ≡ reads-ends (pushed t (record { owner = p; to = r.to; at = r.at % 65536; len = r.len })) p s r.end k
-first_on t p s k (got e at) r q h = rw q (ends_cons t p e (many k (end s) at))
-first_on t p s k (refused n) r q h = absurd (number-some n (sym (ap (λ (x : EndRead). x.refused) q) ∙ h))
+module _ (b : Tables) (p : ℕ) (s : List ℕ) (at : ℕ) where
+  abbrev this_node : Got Tables
+  this_node = node_into b p (body s at)
 
-module _ (t : Table) (p : ℕ) (s : List ℕ) (at left : ℕ) (h : 0 < left) (r : EndRead) (e : r ≡ end_of (end s at)) where
-  pub ends-refused : (r.refused ≡ 0 → ⊥) → reads-ends t p s at left ≡ record { refused = r.refused; end = 0; table = empty_table }
-  ends-refused n = one_more (reads-ends t p s at) left h ∙ first-refused t p s (left - 1) (end s at) r e n
+  pub body-uncounted : (why : Refusal) → read_as counts_read (counts s at) ≡ Err why → this_node ≡ refused why
+  body-uncounted why e = rw (read-refused counts_read (counts s at) why e)
 
-  pub ends_on : r.refused ≡ 0 → (y : Item) → y ≡ record { owner = p; to = r.to; at = r.at % 65536; len = r.len } → (u : Table) → u ≡ pushed t y
-      → reads-ends t p s at left ≡ reads-ends u p s r.end (left - 1)
-  ends_on n y f u g = rw (g, f) (one_more (reads-ends t p s at) left h ∙ first_on t p s (left - 1) (end s at) r e n)
+  module _ (r : Read CountsRead) (w : Was counts_read (counts s at) r) where
+    abbrev i : ℕ
+    i = r.value.sources
 
--- ---- lines
-lines_cons : (t : Lines) (p : ℕ) (x : Part) (g : Got (List Part)) → texts_of t p (g then λ xs end. got (x ∷ xs) end) ≡ texts_of (pushed_line t (line_of p x)) p g
-lines_cons t p x (got xs at) = refl
-lines_cons t p x (refused r) = refl
+    abbrev j : ℕ
+    j = r.value.lines
 
-abbrev first-line : ℕ → List ℕ → Got Part → Got (List Part)
-first-line k s g = g then λ x at. many k (text s) at then λ xs end. got (x ∷ xs) end
+    abbrev k : ℕ
+    k = r.value.sinks
 
-line_refused : (t : Lines) (p : ℕ) (s : List ℕ) (k : ℕ) (g : Got Part) (r : Span) → r ≡ span_of g → (r.refused ≡ 0 → ⊥)
-    → texts_of t p (first-line k s g) ≡ record { refused = r.refused; end = 0; lines = empty_lines }
-line_refused t p s k (got e at) r q h = absurd (h (ap (λ (x : Span). x.refused) q))
-line_refused t p s k (refused n) r q h = rw q
+    counted : this_node ≡ node_into b p (items s i j k r.end)
+    counted = rw (w.is, w.same)
 
-line_on : (t : Lines) (p : ℕ) (s : List ℕ) (k : ℕ) (g : Got Part) (r : Span) → r ≡ span_of g → r.refused ≡ 0
-    → texts_of t p (first-line k s g) ≡ reads-texts (pushed_line t (record { owner = p; at = r.at % 65536; len = r.len })) p s r.end k
-line_on t p s k (got e at) r q h = rw q (lines_cons t p e (many k (text s) at))
-line_on t p s k (refused n) r q h = absurd (number-some n (sym (ap (λ (x : Span). x.refused) q) ∙ h))
+    pub sources-none : (why : Refusal) → many i (end s) r.end ≡ refused why → this_node ≡ refused why
+    sources-none why e = counted ∙ rw e
 
-module _ (t : Lines) (p : ℕ) (s : List ℕ) (at left : ℕ) (h : 0 < left) (r : Span) (e : r ≡ span_of (text s at)) where
-  pub lines-refused : (r.refused ≡ 0 → ⊥) → reads-texts t p s at left ≡ record { refused = r.refused; end = 0; lines = empty_lines }
-  lines-refused n = one_more (reads-texts t p s at) left h ∙ line_refused t p s (left - 1) (text s at) r e n
+    module _ (a : ℕ) (u : Items) (x : Pushes (item_of p) b.sources (many i (end s) r.end) a u) where
+      pub lines-none : (why : Refusal) → many j (text s) a ≡ refused why → this_node ≡ refused why
+      lines-none why e = counted ∙ rw (x.is, e)
 
-  pub lines-on : r.refused ≡ 0 → (y : Line) → y ≡ record { owner = p; at = r.at % 65536; len = r.len } → (u : Lines) → u ≡ pushed_line t y
-      → reads-texts t p s at left ≡ reads-texts u p s r.end (left - 1)
-  lines-on n y f u g = rw (g, f) (one_more (reads-texts t p s at) left h ∙ line_on t p s (left - 1) (text s at) r e n)
+      module _ (c : ℕ) (v : Lines) (y : Pushes (line_of p) b.lines (many j (text s) a) c v) where
+        last-into : (g : Got (List End)) (o : Result ℕ Refusal) (z : Items) → Into (all_into (item_of p) b.sinks g) o z
+            → Into (node_into b p (g then λ sinks e. got (record { sources = x.all; lines = y.all; sinks = sinks }) e)) o (record { n = b.n; sources = u; lines = v; sinks = z })
+        last-into (got es e) o z h = (h.0, rw (x.table, y.table, h.1))
+        last-into (refused q) o z h = h
 
--- ---- what an answer says of the reading behind it
-pub record Stopped {A : Type 0} (g : Got A) (k : ℕ) : Type 0 where
-  pub why : Refusal
-  pub is : g ≡ refused why
-  pub number : k ≡ number_of why
-
-pub record EndsGot (t : Table) (p : ℕ) (g : Got (List End)) (r : Ends) : Type 0 where
-  pub ends : List End
-  pub is : g ≡ got ends r.end
-  pub table : r.table ≡ push_all t p ends
-
-pub record TextsGot (t : Lines) (p : ℕ) (g : Got (List Part)) (r : Texts) : Type 0 where
-  pub texts : List Part
-  pub is : g ≡ got texts r.end
-  pub lines : r.lines ≡ push_lines t p texts
-
-pub ends-stopped : (t : Table) (p : ℕ) (g : Got (List End)) (r : Ends) → r ≡ ends_of t p g → (r.refused ≡ 0 → ⊥) → Stopped g r.refused
-ends-stopped t p (got es at) r q h = absurd (h (ap (λ (x : Ends). x.refused) q))
-ends-stopped t p (refused n) r q h = record { why = n; is = refl; number = ap (λ (x : Ends). x.refused) q }
-
-pub ends-got : (t : Table) (p : ℕ) (g : Got (List End)) (r : Ends) → r ≡ ends_of t p g → r.refused ≡ 0 → EndsGot t p g r
-ends-got t p (got es at) r q h = record { ends = es; is = ap (got es) (sym (ap (λ (x : Ends). x.end) q)); table = ap (λ (x : Ends). x.table) q }
-ends-got t p (refused n) r q h = absurd (number-some n (sym (ap (λ (x : Ends). x.refused) q) ∙ h))
-
-pub texts-stopped : (t : Lines) (p : ℕ) (g : Got (List Part)) (r : Texts) → r ≡ texts_of t p g → (r.refused ≡ 0 → ⊥) → Stopped g r.refused
-texts-stopped t p (got es at) r q h = absurd (h (ap (λ (x : Texts). x.refused) q))
-texts-stopped t p (refused n) r q h = record { why = n; is = refl; number = ap (λ (x : Texts). x.refused) q }
-
-pub texts-got : (t : Lines) (p : ℕ) (g : Got (List Part)) (r : Texts) → r ≡ texts_of t p g → r.refused ≡ 0 → TextsGot t p g r
-texts-got t p (got es at) r q h = record { texts = es; is = ap (got es) (sym (ap (λ (x : Texts). x.end) q)); lines = ap (λ (x : Texts). x.lines) q }
-texts-got t p (refused n) r q h = absurd (number-some n (sym (ap (λ (x : Texts). x.refused) q) ∙ h))
-
--- ---- the items of a node
-module _ (b : Tables) (p : ℕ) (s : List ℕ) (i j k at : ℕ) where
-  pub items-stopped : {m : ℕ} → Stopped (many i (end s) at) m → record { refused = m; end = 0; board = empty_board 0 } ≡ node_of b p (items s i j k at)
-  items-stopped x = rw (x.is, x.number)
-
-  module _ (r : Ends) (x : EndsGot b.sources p (many i (end s) at) r) where
-    pub items-stopped_2 : {m : ℕ} → Stopped (many j (text s) r.end) m → record { refused = m; end = 0; board = empty_board 0 } ≡ node_of b p (items s i j k at)
-    items-stopped_2 y = rw (x.is, y.is, y.number)
-
-    module _ (q : Texts) (y : TextsGot b.lines p (many j (text s) r.end) q) where
-      pub items-stopped_3 : {m : ℕ} → Stopped (many k (end s) q.end) m → record { refused = m; end = 0; board = empty_board 0 } ≡ node_of b p (items s i j k at)
-      items-stopped_3 z = rw (x.is, y.is, z.is, z.number)
-
-      pub items-got : (o : Ends) → EndsGot b.sinks p (many k (end s) q.end) o → items_read b.n r q o ≡ node_of b p (items s i j k at)
-      items-got o z = rw (x.is, y.is, z.is, x.table, y.lines, z.table)
-
--- ---- the counts of a body, then its items
-pub counts-stopped : (g : Got Counts) (r : CountsRead) → r ≡ counts_of g → (r.refused ≡ 0 → ⊥) → Stopped g r.refused
-counts-stopped (got c at) r q h = absurd (h (ap (λ (x : CountsRead). x.refused) q))
-counts-stopped (refused n) r q h = record { why = n; is = refl; number = ap (λ (x : CountsRead). x.refused) q }
-
-counts-got : (g : Got Counts) (r : CountsRead) → r ≡ counts_of g → r.refused ≡ 0 → g ≡ got (record { sources = r.sources; lines = r.lines; sinks = r.sinks }) r.end
-counts-got (got c at) r q h = rw q
-counts-got (refused n) r q h = absurd (number-some n (sym (ap (λ (x : CountsRead). x.refused) q) ∙ h))
-
-module _ (b : Tables) (p : ℕ) (s : List ℕ) (at : ℕ) (r : CountsRead) (e : r ≡ counts_of (counts s at)) where
-  pub body-stopped : (r.refused ≡ 0 → ⊥) → record { refused = r.refused; end = 0; board = empty_board 0 } ≡ node_of b p (body s at)
-  body-stopped h = go (counts-stopped (counts s at) r e h)
-    where
-      go : {m : ℕ} → Stopped (counts s at) m → record { refused = m; end = 0; board = empty_board 0 } ≡ node_of b p (body s at)
-      go x = rw (x.is, x.number)
-
-  pub body-counted : r.refused ≡ 0 → node_of b p (items s r.sources r.lines r.sinks r.end) ≡ node_of b p (body s at)
-  body-counted h = rw (counts-got (counts s at) r e h)
+        pub body-into : (o : Result ℕ Refusal) (z : Items) → Into (all_into (item_of p) b.sinks (many k (end s) c)) o z → Into this_node o (record { n = b.n; sources = u; lines = v; sinks = z })
+        body-into o z h = rw (counted, x.is, y.is) (last-into (many k (end s) c) o z h)
 
 -- ---- the bodies
-nodes_cons : (b : Tables) (p : ℕ) (q : Node) (g : Got Board) → nodes_of b p (g then λ qs at. got (q ∷ qs) at) ≡ nodes_of (with_node b p q) (suc p) g
+pub record Placed (b : Tables) (p : ℕ) (g : Got Node) (at : ℕ) (v : Tables) : Type 0 where
+  pub node : Node
+  pub is : g ≡ got node at
+  pub tables : v ≡ with_node b p node
+
+pub placed : (b : Tables) (p : ℕ) (g : Got Node) (at : ℕ) (v : Tables) (r : Result ℕ Refusal) → Into (node_into b p g) r v → r ≡ Ok at → Placed b p g at v
+placed b p (got q a) at v r i e = let z : a ≡ at = cc in record { node = q; is = rw z; tables = i.1 }
+placed b p (refused w) at v r i e = absurd (err_ok (sym i ∙ e))
+
+pub unplaced : (b : Tables) (p : ℕ) (g : Got Node) (why : Refusal) (v : Tables) (r : Result ℕ Refusal) → Into (node_into b p g) r v → r ≡ Err why → g ≡ refused why
+unplaced b p (got q a) why v r i e = absurd (err_ok (sym e ∙ i.0))
+unplaced b p (refused w) why v r i e = let z : w ≡ why = cc in rw z
+
+nodes_cons : (b : Tables) (p : ℕ) (q : Node) (g : Got Board) → nodes_into b p (g then λ qs at. got (q ∷ qs) at) ≡ nodes_into (with_node b p q) (suc p) g
 nodes_cons b p q (got qs at) = refl
 nodes_cons b p q (refused n) = refl
 
--- the first of suc k bodies, and the others
-abbrev first_body : ℕ → List ℕ → ℕ → Got Node → Got Board
-first_body k s p g = g then λ q at. bodies k s (suc p) at then λ qs end. got (q ∷ qs) end
-
-body_refused : (b : Tables) (p : ℕ) (s : List ℕ) (k : ℕ) (g : Got Node) (r : Nodes) → r ≡ node_of b p g → (r.refused ≡ 0 → ⊥)
-    → nodes_of b p (first_body k s p g) ≡ record { refused = r.refused; end = 0; board = empty_board 0 }
-body_refused b p s k (got q at) r e h = absurd (h (ap (λ (x : Nodes). x.refused) e))
-body_refused b p s k (refused n) r e h = rw e
-
-body-on : (b : Tables) (p : ℕ) (s : List ℕ) (k : ℕ) (g : Got Node) (r : Nodes) → r ≡ node_of b p g → r.refused ≡ 0
-    → nodes_of b p (first_body k s p g) ≡ nodes_of r.board (suc p) (bodies k s (suc p) r.end)
-body-on b p s k (got q at) r e h = rw e (nodes_cons b p q (bodies k s (suc p) at))
-body-on b p s k (refused n) r e h = absurd (number-some n (sym (ap (λ (x : Nodes). x.refused) e) ∙ h))
-
 module _ (b : Tables) (p : ℕ) (s : List ℕ) (at left : ℕ) (h : 0 < left) where
-  abbrev reads : ℕ → Nodes
-  reads k = nodes_of b p (bodies k s p at)
+  abbrev nodes_left : ℕ → Got Tables
+  nodes_left k = nodes_into b p (bodies k s p at)
 
-  pub bodies-misplaced : (entry s p ≡ at → ⊥) → reads left ≡ record { refused = 5; end = 0; board = empty_board 0 }
-  bodies-misplaced n = one_more reads left h ∙ rw (ne_eqb (entry s p) at n)
+  pub bodies_misplaced : (entry s p ≡ at → ⊥) → nodes_left left ≡ refused Misplaced
+  bodies_misplaced n = one_more nodes_left left h ∙ rw (ne_eqb (entry s p) at n)
 
-  module _ (o : entry s p ≡ at) (r : Nodes) (e : r ≡ node_of b p (body s at)) where
-    pub bodies-refused : (r.refused ≡ 0 → ⊥) → reads left ≡ record { refused = r.refused; end = 0; board = empty_board 0 }
-    bodies-refused n = one_more reads left h ∙ rw (eq-eqb (entry s p) at o) (body_refused b p s (left - 1) (body s at) r e n)
+  module _ (o : entry s p ≡ at) where
+    pub bodies_refused : (why : Refusal) → body s at ≡ refused why → nodes_left left ≡ refused why
+    bodies_refused why e = one_more nodes_left left h ∙ rw (eq-eqb (entry s p) at o, e)
 
-    pub bodies-on : r.refused ≡ 0 → reads left ≡ nodes_of r.board (p + 1) (bodies (left - 1) s (p + 1) r.end)
-    bodies-on n = one_more reads left h ∙ rw (eq-eqb (entry s p) at o, add-one p) (body-on b p s (left - 1) (body s at) r e n)
+    pub bodies_on : (q : Node) (a : ℕ) → body s at ≡ got q a → nodes_left left ≡ nodes_into (with_node b p q) (p + 1) (bodies (left - 1) s (p + 1) a)
+    bodies_on q a e = one_more nodes_left left h ∙ rw (eq-eqb (entry s p) at o, e, add-one p) (nodes_cons b p q (bodies (left - 1) s (suc p) a))

@@ -9,7 +9,9 @@ use lib.Dec.{eqb, leb, ltb}
 use lib.ListN.{length, get_or, take, drop, take-append-drop, length-drop}
 use lib.Seq.{length-take-le}
 use borrow.Author.Tests.{lt-ltb, le-ltb, eqb-true, ne_eqb}
-use Rattle.chart.specs.Chart.{Part, End, Node, Board, Reading, ready, refusal, Refusal, cut_body, misplaced, long_text, not_text, Got, got, refused, ◌then◌, byte, many, is_text, text_byte, byte_c2, byte_b0, characters, text, end, counts, body, entry, bodies, judged, under_two, chart}
+use Rattle.chart.specs.Chart.{Part, End, Node, Board, Reading, ready, refusal, Got, got, refused, ◌then◌, byte, many, is_text, text_byte, byte_c2, byte_b0, characters, text, end, counts, body, entry, bodies, judged, under_two, chart}
+use Rattle.refusals.specs.declared.Refusal.{Refusal}
+use Rattle.refusals.specs.declared.Refusal.TheVariants.{CutBody, CutContents, LongText, ManyNodes, Misplaced, NotText, OtherFormat}
 use Rattle.chart.specs.declared.Setting.{Setting}
 use Rattle.chart.specs.Text.{Texted, empty, plain, degree, characters_in, ending, bytes_of, text_of}
 use Rattle.chart.specs.Accepted.{Fitting}
@@ -21,7 +23,7 @@ use Rattle.chart.proofs.Complete.{byte_reads, characters-read}
 -- the text before degree signs: each byte is a character
 abbrev pub plain_text : List ℕ → ℕ → Got Part
 plain_text s at =
-    byte s at then λ len begin. cond (leb len 24) (many len (text_byte s) begin then λ bytes end. got (record { at = begin; len = len }) end) (refused long_text)
+    byte s at then λ len begin. cond (leb len 24) (many len (text_byte s) begin then λ bytes end. got (record { at = begin; len = len }) end) (refused LongText)
 
 -- the readers of a chart as Chart has them, but for the reader of a text, which is given
 module _ (read : ℕ → Got Part) (s : List ℕ) where
@@ -41,7 +43,7 @@ module _ (read : ℕ → Got Part) (s : List ℕ) where
   abbrev bodies_by : ℕ → ℕ → ℕ → Got Board
   bodies_by zero k at = got [] at
   bodies_by (suc m) k at =
-      cond (eqb (entry s k) at) (body_by at then λ node at₁. bodies_by m (suc k) at₁ then λ nodes at₂. got (node ∷ nodes) at₂) (refused misplaced)
+      cond (eqb (entry s k) at) (body_by at then λ node at₁. bodies_by m (suc k) at₁ then λ nodes at₂. got (node ∷ nodes) at₂) (refused Misplaced)
 
   abbrev pub chart_by : Setting → Reading
   chart_by w =
@@ -51,9 +53,9 @@ module _ (read : ℕ → Got Part) (s : List ℕ) where
       (cond (leb n 32)
       (cond (leb (2 + 2 * n) (length s))
       (judged w s n (bodies_by n 0 (2 + 2 * n)))
-      (refusal 4 0))
-      (refusal 3 0))
-      (refusal 2 0))
+      (refusal CutContents))
+      (refusal ManyNodes))
+      (refusal OtherFormat))
 
 -- given Chart's reader of a text they read as Chart's do
 bodies-by : (m : ℕ) (s : List ℕ) (k at : ℕ) → bodies m s k at ≡ bodies_by (text s) s m k at
@@ -173,7 +175,7 @@ module _ (s : List ℕ) where
   kept-text : (at : ℕ) → Kept (plain_text s at) (text s at)
   kept-text at =
       kept_then (byte s at) (byte s at) _ _ (kept_self (byte s at))
-      (λ len begin. kept_if (leb len 24) _ _ long_text
+      (λ len begin. kept_if (leb len 24) _ _ LongText
       (kept-counted len (many len (text_byte s) begin) (characters len s begin) (λ n end. got (part begin n) end) (kept-characters len begin)))
     where
       part : ℕ → ℕ → Part
@@ -195,7 +197,7 @@ module _ (s : List ℕ) where
   kept-bodies : (m k at : ℕ) → Kept (bodies_by (plain_text s) s m k at) (bodies m s k at)
   kept-bodies zero k at = refl
   kept-bodies (suc m) k at =
-      kept_if (eqb (entry s k) at) _ _ misplaced
+      kept_if (eqb (entry s k) at) _ _ Misplaced
       (kept_then (body_by (plain_text s) s at) (body s at) _ _ (kept-body at)
       (λ p e. kept_then (bodies_by (plain_text s) s m (suc k) e) (bodies m s (suc k) e) _ _ (kept-bodies m (suc k) e)
       (λ ps f. refl)))
@@ -213,7 +215,7 @@ module _ (s : List ℕ) where
         n = get_or s 1 0
 
         tested : Bool → Bool → Bool → Bool → Got Board → Reading
-        tested a b c d g = cond a (under_two (length s)) (cond b (cond c (cond d (judged w s n g) (refusal 4 0)) (refusal 3 0)) (refusal 2 0))
+        tested a b c d g = cond a (under_two (length s)) (cond b (cond c (cond d (judged w s n g) (refusal CutContents)) (refusal ManyNodes)) (refusal OtherFormat))
 
         go : (a b c d : Bool) → tested a b c d (bodies_by (plain_text s) s n 0 (2 + 2 * n)) ≡ ready ps → tested a b c d (bodies n s 0 (2 + 2 * n)) ≡ ready ps
         go true b c d e = e
@@ -227,7 +229,7 @@ module _ (s : List ℕ) where
 -- if refused, by 9
 abbrev ByNine : {A : Type 0} → Got A → Type 0
 ByNine (got x at) = Unit {0}
-ByNine (refused r) = r ≡ not_text
+ByNine (refused r) = r ≡ NotText
 
 nine_then : {A B : Type 0} (g : Got A) (f : A → ℕ → Got B) → ByNine g → ((x : A) (at : ℕ) → ByNine (f x at)) → ByNine (g then f)
 nine_then (got x at) f p q = q x at
@@ -240,7 +242,7 @@ nine_if false g h p q = q
 characters_nine : (k : ℕ) (s : List ℕ) (at : ℕ) → at + k ≤ length s → ByNine (characters k s at)
 characters_nine zero s at l = tt
 characters_nine (suc zero) s at l =
-    rw (lt-ltb at (length s) (omega arith)) (nine_then (cond (is_text (get_or s at 0)) (got (get_or s at 0) (at + 1)) (refused not_text)) _ (nine_if (is_text (get_or s at 0)) _ _ tt refl) (λ x e. tt))
+    rw (lt-ltb at (length s) (omega arith)) (nine_then (cond (is_text (get_or s at 0)) (got (get_or s at 0) (at + 1)) (refused NotText)) _ (nine_if (is_text (get_or s at 0)) _ _ tt refl) (λ x e. tt))
 characters_nine (suc (suc k)) s at l =
     rw (lt-ltb at (length s) (omega arith), lt-ltb (at + 1) (length s) (omega arith))
     (nine_if (eqb (get_or s at 0) byte_c2) _ _
@@ -258,18 +260,18 @@ module _ (s : List ℕ) (at k : ℕ) (there : at + k ≤ length s) where
   pub texted-read : Texted bytes → characters k s at ≡ got (characters_in bytes) (at + k)
   texted-read t = rw long at (characters-read t s at (drop k (drop at s)) (sym (take-append-drop k (drop at s)))).is
 
-  pub else_nine : (Texted bytes → ⊥) → characters k s at ≡ refused not_text
+  pub else_nine : (Texted bytes → ⊥) → characters k s at ≡ refused NotText
   else_nine other = go (characters k s at) (characters_give k s at) (characters_nine k s at there)
     where
-      go : (g : Got ℕ) → Gives g (Characters s at k) → ByNine g → g ≡ refused not_text
+      go : (g : Got ℕ) → Gives g (Characters s at k) → ByNine g → g ≡ refused NotText
       go (got n e) c b = absurd (other c.texted)
       go (refused r) c b = ap refused b
 
 -- ---- 'where the chart ends after a C2 whose text goes on, it is 6'; and so where it ends after a character
 
 -- after text bytes and degree signs the chart has only l
-module _ (l : List ℕ) (cut : (k : ℕ) (s : List ℕ) (at : ℕ) → drop at s ≡ l → length l < k → characters k s at ≡ refused cut_body) where
-  begun-cut : {t : List ℕ} → Texted t → (k : ℕ) (s : List ℕ) (at : ℕ) → drop at s ≡ t ++ l → length t + length l < k → characters k s at ≡ refused cut_body
+module _ (l : List ℕ) (cut : (k : ℕ) (s : List ℕ) (at : ℕ) → drop at s ≡ l → length l < k → characters k s at ≡ refused CutBody) where
+  begun-cut : {t : List ℕ} → Texted t → (k : ℕ) (s : List ℕ) (at : ℕ) → drop at s ≡ t ++ l → length t + length l < k → characters k s at ≡ refused CutBody
   begun-cut empty k s at e h = cut k s at e (omega arith)
   begun-cut (plain {b = b} {t = t} i w) zero s at e h = absurd (omega arith)
   begun-cut (plain {b = b} {t = t} i w) (suc zero) s at e h = absurd (omega arith)
@@ -288,18 +290,18 @@ module _ (l : List ℕ) (cut : (k : ℕ) (s : List ℕ) (at : ℕ) → drop at s
 past : (s : List ℕ) (at : ℕ) → drop at s ≡ [] → length s ≤ at
 past s at e = omega (arith, length-drop at s, ap length e)
 
-cut-here : (k : ℕ) (s : List ℕ) (at : ℕ) → drop at s ≡ [] → 0 < k → characters k s at ≡ refused cut_body
+cut-here : (k : ℕ) (s : List ℕ) (at : ℕ) → drop at s ≡ [] → 0 < k → characters k s at ≡ refused CutBody
 cut-here zero s at e h = absurd (omega arith)
 cut-here (suc zero) s at e h = rw (le-ltb at (length s) (past s at e))
 cut-here (suc (suc k)) s at e h = rw (le-ltb at (length s) (past s at e))
 
-cut-sign : (k : ℕ) (s : List ℕ) (at : ℕ) → drop at s ≡ byte_c2 ∷ [] → 1 < k → characters k s at ≡ refused cut_body
+cut-sign : (k : ℕ) (s : List ℕ) (at : ℕ) → drop at s ≡ byte_c2 ∷ [] → 1 < k → characters k s at ≡ refused CutBody
 cut-sign zero s at e h = absurd (omega arith)
 cut-sign (suc zero) s at e h = absurd (omega arith)
 cut-sign (suc (suc k)) s at e h = let r = byte_reads s at byte_c2 [] e in rw (r.is, le-ltb (at + 1) (length s) (past s (at + 1) r.rest))
 
-pub six-after-sign : {t : List ℕ} → Texted t → (k : ℕ) (s : List ℕ) (at : ℕ) → drop at s ≡ t ++ (byte_c2 ∷ []) → length t + 1 < k → characters k s at ≡ refused cut_body
+pub six-after-sign : {t : List ℕ} → Texted t → (k : ℕ) (s : List ℕ) (at : ℕ) → drop at s ≡ t ++ (byte_c2 ∷ []) → length t + 1 < k → characters k s at ≡ refused CutBody
 six-after-sign = begun-cut (byte_c2 ∷ []) cut-sign
 
-pub six-after-text : {t : List ℕ} → Texted t → (k : ℕ) (s : List ℕ) (at : ℕ) → drop at s ≡ t ++ [] → length t + 0 < k → characters k s at ≡ refused cut_body
+pub six-after-text : {t : List ℕ} → Texted t → (k : ℕ) (s : List ℕ) (at : ℕ) → drop at s ≡ t ++ [] → length t + 0 < k → characters k s at ≡ refused CutBody
 six-after-text = begun-cut [] cut-here

@@ -6,6 +6,7 @@ use Rattle.std.specs.Prelude.{ℕ, ◌≡◌, refl, Bool, true, ◌&&◌, List, 
 use Prim.Native.String.{String}
 use Rattle.chart.specs.declared.Setting.TheVariants.{Default, Strict}
 use Rattle.laws.specs.Bytes.{hex, all_of}
+use Rattle.refusals.specs.Refusals.{numbers_of}
 use Rattle.chart.specs.Chart.{Part, Reading, ready, refusal, chart}
 
 data Case : Type 0 where
@@ -15,7 +16,7 @@ data Case : Type 0 where
 -- both numbers of the answer are these; an accepted chart's are 0
 abbrev numbered : Reading → ℕ → ℕ → Bool
 numbered (ready ps) a b = eqb a 0 && eqb b 0
-numbered (refusal first second) a b = eqb first a && eqb second b
+numbered (refusal why) a b = eqb (numbers_of why).first a && eqb (numbers_of why).second b
 
 holds : Case → Bool
 unfolding chart

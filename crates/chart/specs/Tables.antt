@@ -3,11 +3,17 @@
 use Rattle.std.specs.Prelude.{ℕ, ◌%◌, List, length}
 use Rattle.laws.specs.Lists.{flat, padded}
 use Rattle.chart.specs.declared.Item.{Item}
-use Rattle.chart.specs.declared.Table.{Table}
+use Rattle.tables.specs.declared.Table.{Table}
 use Rattle.chart.specs.declared.Line.{Line}
-use Rattle.chart.specs.declared.Lines.{Lines}
 use Rattle.chart.specs.declared.Board.{Board as Tables}
 use Rattle.chart.specs.Chart.{Part, End, Node, Board}
+
+-- a list in fixed memory: an array, and how many of its places count
+abbrev pub Items : Type 0
+Items = Table Item 64
+
+abbrev pub Lines : Type 0
+Lines = Table Line 128
 
 abbrev pub no_item : Item
 no_item = record { owner = 0; to = 0; at = 0; len = 0 }
@@ -35,7 +41,7 @@ abbrev pub sinks_from : ℕ → Board → List Item
 sinks_from = flat item_of (λ (q : Node). q.sinks)
 
 -- a table that holds the records, and empty ones past them
-abbrev pub table_for : List Item → Table
+abbrev pub table_for : List Item → Items
 table_for xs = record { items = padded 64 no_item xs; count = length xs }
 
 abbrev pub lines_for : List Line → Lines

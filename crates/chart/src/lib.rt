@@ -3,16 +3,18 @@
 #![tactic(auto)]
 
 ghost use Rattle.std.specs.Prelude.{◌≡◌};
-ghost use Rattle.chart.specs.Chart.{refusal, under_two};
+ghost use Rattle.chart.specs.Chart.{under_two};
 ghost use Rattle.chart.specs.Read.{IsRead};
-ghost use Rattle.chart.specs.code.Reads.{read_of, judged_of, closed_of};
+ghost use Rattle.chart.specs.code.Filled.{empty_board};
+ghost use Rattle.chart.specs.code.Reads.{read_of, judged_of};
 
-use judge::Outside;
-use reader::Nodes;
+use judge::outside_in;
+use reader::read_bodies;
+use refusals::Refusal;
+use tables::Table;
 
 mod judge;
 mod reader;
-mod tables;
 
 // The two bytes of a degree sign.
 pub const BYTE_C2: u8 = 0xc2;
@@ -35,12 +37,8 @@ pub struct Item {
     pub len: u8,
 }
 
-// The first count items. (While a chart is being read, 65 is 'more than 64'.)
-#[derive(Clone, Copy)]
-pub struct Table {
-    pub items: [Item; 64],
-    pub count: usize,
-}
+// The sources or the sinks. (While a chart is being read, the count 65 is 'more than 64'.)
+pub type Items = Table<Item, 64>;
 
 // A line: its text's place in the chart, its node, and how many characters it has. (In this order it takes 4 bytes.)
 #[derive(Clone, Copy)]
@@ -50,114 +48,91 @@ pub struct Line {
     pub len: u8,
 }
 
-// The first count lines.
-#[derive(Clone, Copy)]
-pub struct Lines {
-    pub items: [Line; 128],
-    pub count: usize,
-}
+pub type Lines = Table<Line, 128>;
 
 // n nodes, with the sources, the lines and the sinks of all.
 #[derive(Clone, Copy)]
 pub struct Board {
     pub n: u8,
-    pub sources: Table,
+    pub sources: Items,
     pub lines: Lines,
-    pub sinks: Table,
+    pub sinks: Items,
 }
 
-// Ready, or document 01's two numbers of the refusal.
-#[derive(Clone, Copy)]
-pub enum Answer {
-    Ready,
-    Refused(u8, u32),
-}
-
-// A refused chart's board is the empty one.
-#[derive(Clone, Copy)]
-pub struct Outcome {
-    pub answer: Answer,
-    pub board: Board,
-}
-
-// A refused chart.
-fn refused(number: u8, second: u32) -> Outcome
-    ensures { result ≡ read_of (refusal number second) }
-{
-    let none = tables::no_nodes(0);
-    Outcome {
-        answer: Answer::Refused(number, second),
-        board: none,
+impl Board {
+    // n nodes, and nothing of theirs.
+    fn empty(n: u8) -> Self
+        ensures { result ≡ empty_board n }
+    {
+        let none = Item {
+            owner: 0,
+            to: 0,
+            at: 0,
+            len: 0,
+        };
+        let line = Line {
+            at: 0,
+            owner: 0,
+            len: 0,
+        };
+        Board {
+            n,
+            sources: Table::empty(none),
+            lines: Table::empty(line),
+            sinks: Table::empty(none),
+        }
     }
 }
 
 // A chart of fewer than 2 bytes: of none it is the empty board, of one refusal 1.
-fn under_two(len: usize) -> Outcome
+fn under_two(len: usize) -> Result<Board, Refusal>
     ensures { result ≡ read_of (under_two len) }
 {
     if len != 0 {
-        return refused(1, 0);
+        return Err(Refusal::OneByte);
     }
-    let empty = tables::no_nodes(0);
-    Outcome {
-        answer: Answer::Ready,
-        board: empty,
-    }
+    Ok(Board::empty(0))
 }
 
 // Refusals 11 and 12.
-fn judged(board: Board, setting: Setting) -> Outcome
-    ensures { result ≡ judged_of setting board }
+fn judged(board: &Board, setting: Setting) -> Result<(), Refusal>
+    ensures { result ≡ judged_of setting board.now }
 {
     let sources = board.sources.count;
     if sources > 64 {
-        return refused(11, 0);
+        return Err(Refusal::ManyEnds);
     }
     if board.sinks.count > 64 - sources {
-        return refused(11, 0);
+        return Err(Refusal::ManyEnds);
     }
-    let found = judge::outside_in(board, setting);
-    match found {
-        Outside::Nothing => Outcome {
-            answer: Answer::Ready,
-            board: board,
-        },
-        Outside::Target(t) => refused(12, t as u32),
+    match outside_in(board, setting) {
+        Some(target) => Err(Refusal::Outside(target)),
+        None => Ok(()),
     }
-}
-
-// Refusals 10 to 12, of the nodes of a chart of len bytes. (A function of its own, for the memory: with one more test before it `judged` has a frame on top of
-// its caller's, since the compiler takes its call to be rare.)
-fn closed(nodes: Nodes, len: usize, setting: Setting) -> Outcome
-    ensures { result ≡ closed_of setting nodes len }
-{
-    if nodes.end < len {
-        return refused(10, 0);
-    }
-    let board = nodes.board;
-    judged(board, setting)
 }
 
 // A chart: its board, or the first refusal of 1 to 12.
-pub fn read(chart: &[u8], setting: Setting) -> Outcome
+pub fn read(chart: &[u8], setting: Setting) -> Result<Board, Refusal>
     ensures { IsRead setting chart.now result }
 {
     if chart.len() < 2 {
         return under_two(chart.len());
     }
     if chart[0] != 1 {
-        return refused(2, 0);
+        return Err(Refusal::OtherFormat);
     }
     let n = chart[1];
     if n > 32 {
-        return refused(3, 0);
+        return Err(Refusal::ManyNodes);
     }
     if chart.len() < 2 + 2 * (n as usize) {
-        return refused(4, 0);
+        return Err(Refusal::CutContents);
     }
-    let nodes = reader::read_bodies(chart, n);
-    if nodes.refused != 0 {
-        return refused(nodes.refused, 0);
+    let mut board = Board::empty(n);
+    let end = read_bodies(chart, &mut board)?;
+    if end < chart.len() {
+        return Err(Refusal::BytesAfter);
     }
-    closed(nodes, chart.len(), setting)
+    judged(&board, setting)?;
+    Ok(board)
 }

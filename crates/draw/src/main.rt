@@ -2,7 +2,8 @@
 // Refused: the refusal on standard error, and nothing on standard output; so too an input that can't be read.
 #![tactic(auto)]
 
-ghost use Rattle.std.specs.Prelude.{◌≡◌, true, ◌≤◌, length, take, IfOk};
+ghost use Rattle.std.specs.Prelude.{◌≡◌, true, ◌≤◌, length, take, Ok, IfOk};
+ghost use Rattle.std.specs.Option.{is_some};
 ghost use Rattle.grid.specs.Labels.{label_of};
 ghost use Rattle.grid.specs.Record.{sound_of};
 ghost use Rattle.grid.specs.RenderGrid.{Sheet};
@@ -10,9 +11,9 @@ ghost use Rattle.grid.specs.Sheeted.{ready, sheeted};
 ghost use Rattle.path.specs.Label.{stand_ins};
 ghost use Rattle.path.specs.Promises.{IsWritten};
 
-use chart::{Answer, Setting};
+use chart::Setting;
 use grid::{BoxRecord, NO_OWNER, SheetRecord};
-use path::{LabelAnswer, Written};
+use path::PlacedLabel;
 use std::io;
 use std::io::{BufWriter, Read, Write};
 
@@ -21,19 +22,6 @@ const ROOM: u64 = 8192;
 
 fn put<W: Write>(out: &mut W, text: &[u8]) -> io::Result<()> {
     out.write_all(text)
-}
-
-fn put_number<W: Write>(out: &mut W, n: u32) -> io::Result<()> {
-    write!(out, "{n}")
-}
-
-// An attribute whose value is a number.
-fn put_attribute<W: Write>(out: &mut W, name: &[u8], n: u32) -> io::Result<()> {
-    put(out, b" ")?;
-    put(out, name)?;
-    put(out, b"=\"")?;
-    put_number(out, n)?;
-    put(out, b"\"")
 }
 
 // A byte of a text: the five that XML reserves go by name, and both bytes of a degree sign as they are (UTF-8 is XML's default).
@@ -57,17 +45,14 @@ fn put_text<W: Write>(out: &mut W, text: &[u8]) -> io::Result<()> {
 
 // The document's start, and a white ground.
 fn put_head<W: Write>(out: &mut W, width: u32, height: u32) -> io::Result<()> {
-    put(
+    writeln!(
         out,
-        b"<svg xmlns=\"http://www.w3.org/2000/svg\" version=\"1.1\" viewBox=\"0 0 ",
+        "<svg xmlns=\"http://www.w3.org/2000/svg\" version=\"1.1\" viewBox=\"0 0 {width} {height}\">"
     )?;
-    put_number(out, width)?;
-    put(out, b" ")?;
-    put_number(out, height)?;
-    put(out, b"\">\n<rect")?;
-    put_attribute(out, b"width", width)?;
-    put_attribute(out, b"height", height)?;
-    put(out, b" fill=\"white\"/>\n")
+    writeln!(
+        out,
+        "<rect width=\"{width}\" height=\"{height}\" fill=\"white\"/>"
+    )
 }
 
 // The colour of a box: of a given node's, one of eight that colour-blind readers tell apart (Okabe and Ito's); grey where it leads to nothing.
@@ -110,13 +95,12 @@ fn put_dashes<W: Write>(out: &mut W, owner: u8) -> io::Result<()> {
 }
 
 // A box in its owner's colour, over the sheet's path: its border, and a tint inside.
-fn put_box<W: Write>(out: &mut W, b: BoxRecord) -> io::Result<()> {
-    put(out, b"<rect")?;
-    put_attribute(out, b"x", b.x)?;
-    put_attribute(out, b"y", b.y)?;
-    put_attribute(out, b"width", b.width)?;
-    put_attribute(out, b"height", b.height)?;
-    put(out, b" fill=\"")?;
+fn put_box<W: Write>(out: &mut W, b: &BoxRecord) -> io::Result<()> {
+    write!(
+        out,
+        "<rect x=\"{}\" y=\"{}\" width=\"{}\" height=\"{}\" fill=\"",
+        b.x, b.y, b.width, b.height
+    )?;
     put_tint(out, b.owner)?;
     put(out, b"\" stroke=\"")?;
     put_colour(out, b.owner)?;
@@ -125,32 +109,30 @@ fn put_box<W: Write>(out: &mut W, b: BoxRecord) -> io::Result<()> {
     put(out, b"/>\n")
 }
 
-fn put_boxes<W: Write>(out: &mut W, s: SheetRecord) -> io::Result<()>
-    requires { sound_of s ≡ true }
-{
+fn put_boxes<W: Write>(out: &mut W, s: &SheetRecord) -> io::Result<()> {
     put(out, b"<g fill-opacity=\"0.15\" stroke-width=\"64\">\n")?;
     for b in s.boxes.iter().take(s.count as usize) {
-        put_box(out, *b)?;
+        put_box(out, b)?;
     }
     put(out, b"</g>\n")
 }
 
 // Puts the text of a sound sheet at the buffer's start and answers its length. None is refused: such a text has at most 9,887 bytes.
-fn write_text(s: SheetRecord, buf: &mut [u8]) -> usize
-    requires s_value { sound_of s ≡ true }
+fn write_text(s: &SheetRecord, buf: &mut [u8]) -> usize
+    requires s_value { sound_of s.now ≡ true }
     requires in_bounds { 9887 ≤ length buf.old }
-    ensures written { IsWritten s buf.old (Written.Done result) buf.new }
+    ensures written { IsWritten s.now buf.old (Ok result) buf.new }
     ensures prefix_len { (result ≤ length buf.new) × (result ≡ length (take result buf.new)) }
 {
-    let Written::Done(n) = path::write_sheet(s, buf) else {
+    let Ok(n) = path::write_sheet(s, buf) else {
         unreachable!()
     };
     n
 }
 
 // The sheet's path; an empty one has an empty `d`, which draws nothing.
-fn put_path<W: Write>(out: &mut W, s: SheetRecord) -> io::Result<()>
-    requires { sound_of s ≡ true }
+fn put_path<W: Write>(out: &mut W, s: &SheetRecord) -> io::Result<()>
+    requires { sound_of s.now ≡ true }
 {
     put(out, b"<path d=\"")?;
     let mut text = [0u8; 65536];
@@ -163,18 +145,14 @@ fn put_path<W: Write>(out: &mut W, s: SheetRecord) -> io::Result<()>
 }
 
 // A label, unless its text is empty: its place is the left end of its baseline, and it is as wide as the layout has it, whatever the font.
-fn put_label<W: Write>(out: &mut W, l: LabelAnswer, text: &[u8]) -> io::Result<()> {
-    if text.len() == 0 {
+fn put_label<W: Write>(out: &mut W, l: &PlacedLabel, text: &[u8]) -> io::Result<()> {
+    if text.is_empty() {
         return Ok(());
     }
-    put(out, b"<text")?;
-    put_attribute(out, b"x", l.x)?;
-    put_attribute(out, b"y", l.y)?;
-    put_attribute(out, b"font-size", l.size)?;
-    put_attribute(out, b"textLength", l.width)?;
-    put(
+    write!(
         out,
-        b" lengthAdjust=\"spacingAndGlyphs\" xml:space=\"preserve\">",
+        "<text x=\"{}\" y=\"{}\" font-size=\"{}\" textLength=\"{}\" lengthAdjust=\"spacingAndGlyphs\" xml:space=\"preserve\">",
+        l.x, l.y, l.size, l.width
     )?;
     put_text(out, text)?;
     put(out, b"</text>\n")
@@ -189,17 +167,14 @@ fn draw_label<W: Write>(
     i: usize,
 ) -> io::Result<bool>
     requires { table.now ≡ stand_ins }
-    ensures { IfOk result (λ found. (sh : Sheet) → sheeted Setting.Default chart.now 0 0 ≡ ready sh → found ≡ (label_of sh k i).found) }
+    ensures { IfOk result (λ found. (sh : Sheet) → sheeted Setting.Default chart.now 0 0 ≡ ready sh → found ≡ is_some (label_of sh k i)) }
 {
-    let l = path::label_place(chart, 0, 0, Setting::Default, table, k, i);
-    match l.answer {
-        Answer::Ready => {
-            let text = path::label_part(chart, 0, 0, Setting::Default, table, k, i);
-            put_label(out, l, text)?;
-            Ok(true)
-        }
-        Answer::Refused(_, _) => Ok(false),
-    }
+    let Ok(l) = path::label_place(chart, 0, 0, Setting::Default, table, k, i) else {
+        return Ok(false);
+    };
+    let text = path::label_part(chart, 0, 0, Setting::Default, table, k, i);
+    put_label(out, &l, text)?;
+    Ok(true)
 }
 
 // The labels of box k: at most 68, since a chart has at most 64 sources and sinks, and a box 4 lines.
@@ -223,8 +198,8 @@ fn draw_labels<W: Write>(out: &mut W, chart: &[u8], count: u8) -> io::Result<()>
     Ok(())
 }
 
-fn draw_sheet<W: Write>(out: &mut W, chart: &[u8], s: SheetRecord) -> io::Result<()>
-    requires { sound_of s ≡ true }
+fn draw_sheet<W: Write>(out: &mut W, chart: &[u8], s: &SheetRecord) -> io::Result<()>
+    requires { sound_of s.now ≡ true }
 {
     put_head(out, s.width, s.height)?;
     put_path(out, s)?;
@@ -234,16 +209,11 @@ fn draw_sheet<W: Write>(out: &mut W, chart: &[u8], s: SheetRecord) -> io::Result
     put(out, b"</g>\n</svg>\n")
 }
 
-fn refuse<W: Write>(err: &mut W, first: u8, second: u32) -> io::Result<()> {
-    writeln!(err, "refused {first} {second}")
-}
-
 // The picture goes to `out`, a refusal to `err`.
 fn draw<W: Write, E: Write>(out: &mut W, err: &mut E, chart: &[u8]) -> io::Result<()> {
-    let r = grid::sheet(chart, 0, 0, Setting::Default);
-    match r.answer {
-        Answer::Ready => draw_sheet(out, chart, r.sheet),
-        Answer::Refused(first, second) => refuse(err, first, second),
+    match grid::sheet(chart, 0, 0, Setting::Default) {
+        Ok(sheet) => draw_sheet(out, chart, &sheet),
+        Err(why) => writeln!(err, "{}", why.numbers()),
     }
 }
 
@@ -251,7 +221,7 @@ fn draw<W: Write, E: Write>(out: &mut W, err: &mut E, chart: &[u8]) -> io::Resul
 fn main(rt: HostRuntime) -> io::Result<()> {
     let mut chart = Vec::with_capacity(rt.alloc(), ROOM as usize)?;
     let read = rt.reader().take(ROOM).read_to_end(&mut chart);
-    if read.is_err() && chart.len() == 0 {
+    if read.is_err() && chart.is_empty() {
         eprintln!(rt; "standard input can't be read")?;
         return Ok(());
     }

@@ -4,21 +4,25 @@ use Prim.Native.Nat.{ℕ, suc, ◌+◌, ◌-◌, ◌≤◌, ◌<◌}
 use native.Mathlib.Omega.{arith}
 use native.Mathlib.Numerals.{add-one, add-two}
 use mathlib.Core.Path.{◌≡◌, refl, ap, sym, subst, ◌∙◌}
+use mathlib.Core.Bool.{true, false}
 use mathlib.Core.List.{List, [], ◌∷◌, ◌++◌}
 use lib.ListN.{length, get_or, set, take, length-set}
 use lib.Seq.{get_or-take, take-set-lt, length-take-le}
+use Rattle.std.proofs.lemmas.List.{length-take}
 use Rattle.laws.specs.Lists.{stack_of}
 use Rattle.laws.proofs.Lists.{stack_last, get_d_any}
 use Rattle.graph.specs.declared.Item.{Item}
 use Rattle.graph.specs.declared.Tables.{Tables}
 use Rattle.graph.specs.declared.cutting.Look.{Look}
+use Rattle.graph.specs.declared.reach.Seen.{Seen}
+use Rattle.graph.specs.declared.reach.Seen.TheVariants.{Unseen, OnPath, Explored}
 use Rattle.graph.specs.Graph.{Edge, no_edge, node_at, degree}
-use Rattle.graph.specs.Cutting.{Walk, cut, cut_graph, seeing, explore_from}
+use Rattle.graph.specs.Cutting.{Walk, cut, cut_graph, seeing, explore_from, seen_at, unseen?, on_path?}
 use Rattle.graph.specs.code.Path.{unseens}
 use Rattle.graph.specs.code.Tables.{owned, edge_of, items_of, lines_of, graph_of, Sunk, CutTo}
 use Rattle.graph.specs.Outcome.{no_item}
-use Rattle.graph.specs.code.Explore.{Explore, no_look, looks, resume, Within, walk_of, answer, Ready, Kept}
-use Rattle.graph.proofs.Lists.{unseens-set, unseens_fall, unseens-append, node-graph, table-size, table_at}
+use Rattle.graph.specs.code.Explore.{Explore, no_look, looks, resume, Within, walk_of, answer, Ready, Since, Kept}
+use Rattle.graph.proofs.Lists.{unseens-set, unseens_fall, unseens-append, node-graph}
 use Rattle.graph.proofs.Cuts.{sunk-is, sunk-less, owned_le, aimed-at, take-two, length-graph}
 use Rattle.graph.proofs.Resumes.{length_cut, resume-leave, resume-pass, resume-cut, resume-go, resume-enter, resume-grown}
 
@@ -26,7 +30,7 @@ within_more : (n m : ℕ) → n ≤ m → (fs : List Look) → Within n fs → W
 within_more n m l [] w = tt
 within_more n m l (f ∷ fs) w = (omega (arith, w.0), within_more n m l fs w.1)
 
-module _ (g : ℕ) (t : Tables) (sn : List ℕ) (fs : List Look) (d : ℕ) where
+module _ (g : ℕ) (t : Tables) (sn : List Seen) (fs : List Look) (d : ℕ) where
   abbrev before : Explore
   before = record { given = g; tables = t; seen = sn; frames = fs; depth = suc d }
 
@@ -36,13 +40,13 @@ module _ (g : ℕ) (t : Tables) (sn : List ℕ) (fs : List Look) (d : ℕ) where
   abbrev below : List Look
   below = stack_of no_look fs d
 
-  abbrev v : List ℕ
+  abbrev v : List Seen
   v = take t.n sn
 
   abbrev w : Walk
   w = walk_of before
 
-  module _ (all : length sn ≡ 48) (most : length fs ≡ 48) (long : length t.sinks.items ≡ 88) (rd : Ready before) where
+  module _ (rd : Ready before) where
     abbrev c : ℕ
     c = f.node
 
@@ -58,14 +62,14 @@ module _ (g : ℕ) (t : Tables) (sn : List ℕ) (fs : List Look) (d : ℕ) where
     fuel : g - d ≡ suc (g - suc d)
     fuel = omega (arith, rd.room)
 
-    leave : length (owned c (items_of t.sinks)) ≤ f.sink → Kept before (record { given = g; tables = t; seen = set sn c 3; frames = fs; depth = d })
+    leave : length (owned c (items_of t.sinks)) ≤ f.sink → Kept before (record { given = g; tables = t; seen = set sn c Explored; frames = fs; depth = d })
     unfolding looks
     leave h =
-        let i : take t.n (set sn c 3) ≡ set v c 3 = take-set-lt t.n sn c 3 node_in in
+        let i : take t.n (set sn c Explored) ≡ set v c Explored = take-set-lt t.n sn c Explored node_in in
         let deg : degree (graph_of t) c ≤ f.sink = rw sinks-are h in
-        let fall = unseens_fall v c 3 refl in
+        let fall = unseens_fall v c Explored refl in
         record {
-          ready = record { sound = rd.sound; count = rd.count; room = rw i (omega (arith, rd.room)); within = rd.within.1 };
+          ready = record { all = simp length-set rd.all; most = rd.most; named = rd.named; sound = rd.sound; count = rd.count; room = rw i (omega (arith, rd.room)); within = rd.within.1 };
           given = refl;
           lines = refl;
           same = rw (i, fuel) (sym (resume-leave (g - suc d) w f below deg));
@@ -77,20 +81,17 @@ module _ (g : ℕ) (t : Tables) (sn : List ℕ) (fs : List Look) (d : ℕ) where
       abbrev y : Item
       y = get_or t.sinks.items k no_item
 
-      sinks-fit : t.sinks.count ≤ 88
-      sinks-fit = omega (arith, rd.sound.sink_room, small)
-
-      size : length (items_of t.sinks) ≡ t.sinks.count
-      size = table-size t.sinks long sinks-fit
+      few : length (items_of t.sinks) ≤ 88
+      few = omega (arith, rd.sound.sink_room, small)
 
       k_in : k < t.sinks.count
-      k_in = rw size at k-is.inside
+      k_in = omega (arith, length-take t.sinks.count t.sinks.items, k-is.inside)
 
       here : get_or (items_of t.sinks) k no_item ≡ y
-      here = table_at t.sinks long sinks-fit k k_in
+      here = get_or-take t.sinks.count t.sinks.items k no_item k_in
 
       sink_in : f.sink < 88
-      sink_in = omega (arith, sinks-fit, size, owned_le c (items_of t.sinks), sunk-less (items_of t.sinks) c f.sink k k-is)
+      sink_in = omega (arith, few, owned_le c (items_of t.sinks), sunk-less (items_of t.sinks) c f.sink k k-is)
 
       to_in : y.to < t.n
       to_in = rw here at (aimed-at t.n (items_of t.sinks) k rd.sound.linked.sink_aims k-is.inside)
@@ -105,13 +106,13 @@ module _ (g : ℕ) (t : Tables) (sn : List ℕ) (fs : List Look) (d : ℕ) where
       in_graph = rw (length-graph t.n (lines_of t) (items_of t.sources) (items_of t.sinks)) node_in
 
       v-long : length v ≡ t.n
-      v-long = length-take-le t.n sn (omega (arith, small))
+      v-long = length-take-le t.n sn (omega (arith, rd.all, small))
 
-      seen-is : get_or v (get_or (node_at (graph_of t) c).sinks f.sink no_edge).to 3 ≡ get_or sn y.to 0
+      seen-is : seen_at v (get_or (node_at (graph_of t) c).sinks f.sink no_edge).to ≡ get_or sn y.to Unseen
       seen-is =
-          ap (λ (e : Edge). get_or v e.to 3) edge-is
-          ∙ get_or-take t.n sn y.to 3 to_in
-          ∙ get_d_any sn y.to 3 0 (omega (arith, to_in, small))
+          ap (λ (e : Edge). seen_at v e.to) edge-is
+          ∙ get_or-take t.n sn y.to Explored to_in
+          ∙ get_d_any sn y.to Explored Unseen (omega (arith, rd.all, to_in, small))
 
       abbrev moved : Look
       moved = record { node = c; sink = f.sink + 1 }
@@ -120,46 +121,49 @@ module _ (g : ℕ) (t : Tables) (sn : List ℕ) (fs : List Look) (d : ℕ) where
       on = record { node = c; sink = suc f.sink }
 
       top_in : d < length fs
-      top_in = omega (arith, rd.room, rd.count, small)
+      top_in = omega (arith, rd.most, rd.room, rd.count, small)
 
       path-on : stack_of no_look (set fs d moved) (suc d) ≡ on ∷ below
       path-on = stack_last no_look fs d moved top_in ∙ rw (add-one f.sink)
 
-      pass : (get_or sn y.to 0 ≡ 0 → ⊥) → (get_or sn y.to 0 ≡ 2 → ⊥) →
+      pass : unseen? (get_or sn y.to Unseen) ≡ false → on_path? (get_or sn y.to Unseen) ≡ false →
           Kept before (record { given = g; tables = t; seen = sn; frames = set fs d moved; depth = suc d })
       unfolding looks
       pass a b =
           record {
-            ready = record { sound = rd.sound; count = rd.count; room = rd.room; within = subst (Within t.n) (sym path-on) (node_in, rd.within.1) };
+            ready = record { all = rd.all; most = simp length-set rd.most; named = rd.named; sound = rd.sound; count = rd.count; room = rd.room; within = subst (Within t.n) (sym path-on) (node_in, rd.within.1) };
             given = refl;
             lines = refl;
-            same = rw path-on (sym (resume-pass (g - suc d) w f below more in_graph (λ z. a (sym seen-is ∙ z)) (λ z. b (sym seen-is ∙ z))));
+            same = rw path-on (sym (resume-pass (g - suc d) w f below more in_graph (ap unseen? seen-is ∙ a) (ap on_path? seen-is ∙ b)));
             less = omega (arith, ap looks path-on, sink_in);
           }
 
       abbrev entered : Look
       entered = record { node = y.to; sink = 0 }
 
-      one_less : get_or sn y.to 0 ≡ 0 → suc (unseens (set v y.to 2)) ≡ unseens v
+      one_less : unseen? (get_or sn y.to Unseen) ≡ true → suc (unseens (set v y.to OnPath)) ≡ unseens v
       one_less a =
-          unseens-set v y.to 2 refl (rw v-long to_in)
-          (get_or-take t.n sn y.to 3 to_in ∙ get_d_any sn y.to 3 0 (omega (arith, to_in, small)) ∙ a)
+          unseens-set v y.to OnPath refl (rw v-long to_in)
+          (ap unseen? (get_or-take t.n sn y.to Explored to_in ∙ get_d_any sn y.to Explored Unseen (omega (arith, rd.all, to_in, small))) ∙ a)
 
-      path_room : get_or sn y.to 0 ≡ 0 → suc d < 48
+      path_room : unseen? (get_or sn y.to Unseen) ≡ true → suc d < 48
       path_room a = omega (arith, one_less a, rd.room, rd.count, small)
 
-      enter : get_or sn y.to 0 ≡ 0 →
-          Kept before (record { given = g; tables = t; seen = set sn y.to 2; frames = set (set fs d moved) (suc d) entered; depth = suc d + 1 })
+      enter : unseen? (get_or sn y.to Unseen) ≡ true →
+          Kept before (record { given = g; tables = t; seen = set sn y.to OnPath; frames = set (set fs d moved) (suc d) entered; depth = suc d + 1 })
       unfolding looks
       enter a =
-          let i : take t.n (set sn y.to 2) ≡ set v y.to 2 = take-set-lt t.n sn y.to 2 to_in in
+          let i : take t.n (set sn y.to OnPath) ≡ set v y.to OnPath = take-set-lt t.n sn y.to OnPath to_in in
           let less = one_less a in
           let p : stack_of no_look (set (set fs d moved) (suc d) entered) (suc (suc d)) ≡ entered ∷ on ∷ below =
-          stack_last no_look (set fs d moved) (suc d) entered (simp length-set (omega (arith, path_room a))) ∙ ap (λ (l : List Look). entered ∷ l) path-on in
+          stack_last no_look (set fs d moved) (suc d) entered (simp length-set (omega (arith, rd.most, path_room a))) ∙ ap (λ (l : List Look). entered ∷ l) path-on in
           let m : g - suc d ≡ suc (g - suc (suc d)) = omega (arith, rd.room) in
           record {
             ready =
                 record {
+                  all = simp length-set rd.all;
+                  most = simp length-set rd.most;
+                  named = rd.named;
                   sound = rd.sound;
                   count = rd.count;
                   room = rw i (omega (arith, rd.room));
@@ -170,20 +174,20 @@ module _ (g : ℕ) (t : Tables) (sn : List ℕ) (fs : List Look) (d : ℕ) where
             same =
                 rw (i, add-one (suc d), p)
                 (sym (ap (λ (j : ℕ). resume j w (f ∷ below)) m
-                ∙ resume-go (suc (g - suc (suc d))) w f below more in_graph (seen-is ∙ a)
+                ∙ resume-go (suc (g - suc (suc d))) w f below more in_graph (ap unseen? seen-is ∙ a)
                 ∙ ap (λ (e : Edge). resume (suc (g - suc (suc d))) (explore_from (suc (g - suc (suc d))) w e.to) (on ∷ below)) edge-is
                 ∙ resume-enter (g - suc (suc d)) w y.to (on ∷ below)));
             less = rw (i, add-one (suc d)) (omega (arith, ap looks p, sink_in));
           }
 
       -- the sink leads to a node on the path
-      module _ (b : get_or sn y.to 0 ≡ 2) where
+      module _ (b : on_path? (get_or sn y.to Unseen) ≡ true) where
         cut-is : answer before ≡ resume (g - suc d) (cut w c f.sink (edge_of y)) (on ∷ below)
         cut-is =
-            resume-cut (g - suc d) w f below more in_graph (seen-is ∙ b)
+            resume-cut (g - suc d) w f below more in_graph (ap on_path? seen-is ∙ b)
             ∙ ap (λ (e : Edge). resume (g - suc d) (cut w c f.sink e) (on ∷ below)) edge-is
 
-        refuse : 46 < t.n → 48 < length (answer before).graph
+        refuse : 48 < t.n + 2 → 48 < length (answer before).graph
         refuse h =
             rw cut-is
             (omega (
@@ -194,16 +198,19 @@ module _ (g : ℕ) (t : Tables) (sn : List ℕ) (fs : List Look) (d : ℕ) where
             ))
 
         cutting : t.n + 2 ≤ 48 → (r : Tables) → CutTo t c f.sink k r →
-            Kept before (record { given = g; tables = r; seen = set (set sn t.n 3) (t.n + 1) 3; frames = set fs d moved; depth = suc d })
+            Kept before (record { given = g; tables = r; seen = set (set sn t.n Explored) (t.n + 1) Explored; frames = set fs d moved; depth = suc d })
         unfolding looks
         cutting h r made =
-            let i : take r.n (set (set sn t.n 3) (t.n + 1) 3) ≡ v ++ (3 ∷ 3 ∷ []) =
-            rw (made.more, add-two t.n, add-one t.n) (take-two sn t.n 3 3 (omega arith)) in
-            let u : unseens (take r.n (set (set sn t.n 3) (t.n + 1) 3)) ≡ unseens v = ap unseens i ∙ unseens-append v in
+            let i : take r.n (set (set sn t.n Explored) (t.n + 1) Explored) ≡ v ++ (Explored ∷ Explored ∷ []) =
+            rw (made.more, add-two t.n, add-one t.n) (take-two sn t.n Explored Explored (omega (arith, rd.all))) in
+            let u : unseens (take r.n (set (set sn t.n Explored) (t.n + 1) Explored)) ≡ unseens v = ap unseens i ∙ unseens-append v in
             let made-graph : graph_of r ≡ cut_graph (graph_of t) c f.sink (edge_of y) = rw here at made.graph in
             record {
               ready =
                   record {
+                    all = simp length-set rd.all;
+                    most = simp length-set rd.most;
+                    named = made.named;
                     sound = made.sound;
                     count = omega (arith, made.more, made.cuts, rd.count);
                     room = omega (arith, rd.room);
@@ -216,7 +223,7 @@ module _ (g : ℕ) (t : Tables) (sn : List ℕ) (fs : List Look) (d : ℕ) where
             }
 
 -- the same of a state, as the code has it
-module _ (x : Explore) (all : length x.seen ≡ 48) (most : length x.frames ≡ 48) (long : length x.tables.sinks.items ≡ 88) (rx : Ready x) (some : 0 < x.depth) where
+module _ (x : Explore) (rx : Ready x) (some : 0 < x.depth) where
   abbrev top : ℕ
   top = x.depth - 1
 
@@ -235,14 +242,11 @@ module _ (x : Explore) (all : length x.seen ≡ 48) (most : length x.frames ≡ 
   lifted : (r : ℕ → Explore) → Kept (with-depth (suc top)) (r (suc top)) → Kept x (r x.depth)
   lifted r h = subst (λ (k : ℕ). Kept (with-depth k) (r k)) depth_is h
 
-  pub x-node_in : last.node < 48
-  x-node_in = omega (arith, node_in x.given x.tables x.seen x.frames top all most long ry, rx.sound.linked.nodes)
-
   pub x-leave : length (owned last.node (items_of x.tables.sinks)) ≤ last.sink →
-      Kept x (record { given = x.given; tables = x.tables; seen = set x.seen last.node 3; frames = x.frames; depth = top })
+      Kept x (record { given = x.given; tables = x.tables; seen = set x.seen last.node Explored; frames = x.frames; depth = top })
   x-leave h =
-      lifted (λ k. record { given = x.given; tables = x.tables; seen = set x.seen last.node 3; frames = x.frames; depth = top })
-      (leave x.given x.tables x.seen x.frames top all most long ry h)
+      lifted (λ k. record { given = x.given; tables = x.tables; seen = set x.seen last.node Explored; frames = x.frames; depth = top })
+      (leave x.given x.tables x.seen x.frames top ry h)
 
   module _ (k : ℕ) (k-is : Sunk (items_of x.tables.sinks) last.node last.sink k) where
     abbrev at-k : Item
@@ -251,38 +255,24 @@ module _ (x : Explore) (all : length x.seen ≡ 48) (most : length x.frames ≡ 
     abbrev go_on : List Look
     go_on = set x.frames top (record { node = last.node; sink = last.sink + 1 })
 
-    pub x-k_in : k < 88
-    x-k_in =
-        omega (
-          arith,
-          k_in x.given x.tables x.seen x.frames top all most long ry k k-is,
-          sinks-fit x.given x.tables x.seen x.frames top all most long ry k k-is,
-        )
-
     pub x-sink_in : last.sink < 88
-    x-sink_in = sink_in x.given x.tables x.seen x.frames top all most long ry k k-is
+    x-sink_in = sink_in x.given x.tables x.seen x.frames top ry k k-is
 
-    pub x-to_in : at-k.to < 48
-    x-to_in = omega (arith, to_in x.given x.tables x.seen x.frames top all most long ry k k-is, rx.sound.linked.nodes)
+    pub x-room : unseen? (get_or x.seen at-k.to Unseen) ≡ true → x.depth < 48
+    x-room a = omega (arith, path_room x.given x.tables x.seen x.frames top ry k k-is a)
 
-    pub x-room : get_or x.seen at-k.to 0 ≡ 0 → x.depth < 48
-    x-room a = omega (arith, path_room x.given x.tables x.seen x.frames top all most long ry k k-is a)
-
-    pub x-node : last.node < x.tables.n
-    x-node = node_in x.given x.tables x.seen x.frames top all most long ry
-
-    pub x-pass : (get_or x.seen at-k.to 0 ≡ 0 → ⊥) → (get_or x.seen at-k.to 0 ≡ 2 → ⊥) →
+    pub x-pass : unseen? (get_or x.seen at-k.to Unseen) ≡ false → on_path? (get_or x.seen at-k.to Unseen) ≡ false →
         Kept x (record { given = x.given; tables = x.tables; seen = x.seen; frames = go_on; depth = x.depth })
     x-pass a b =
         lifted (λ m. record { given = x.given; tables = x.tables; seen = x.seen; frames = go_on; depth = m })
-        (pass x.given x.tables x.seen x.frames top all most long ry k k-is a b)
+        (pass x.given x.tables x.seen x.frames top ry k k-is a b)
 
-    pub x-enter : get_or x.seen at-k.to 0 ≡ 0 →
+    pub x-enter : unseen? (get_or x.seen at-k.to Unseen) ≡ true →
         Kept x
         (record {
           given = x.given;
           tables = x.tables;
-          seen = set x.seen at-k.to 2;
+          seen = set x.seen at-k.to OnPath;
           frames = set go_on x.depth (record { node = at-k.to; sink = 0 });
           depth = x.depth + 1;
         })
@@ -291,23 +281,23 @@ module _ (x : Explore) (all : length x.seen ≡ 48) (most : length x.frames ≡ 
         (λ m. record {
           given = x.given;
           tables = x.tables;
-          seen = set x.seen at-k.to 2;
+          seen = set x.seen at-k.to OnPath;
           frames = set go_on m (record { node = at-k.to; sink = 0 });
           depth = m + 1;
         })
-        (enter x.given x.tables x.seen x.frames top all most long ry k k-is a)
+        (enter x.given x.tables x.seen x.frames top ry k k-is a)
 
-    pub x-refuse : get_or x.seen at-k.to 0 ≡ 2 → 46 < x.tables.n → 48 < length (answer x).graph
+    pub x-refuse : on_path? (get_or x.seen at-k.to Unseen) ≡ true → 48 < x.tables.n + 2 → 48 < length (answer x).graph
     x-refuse b h =
         subst (λ (m : ℕ). 48 < length (answer (with-depth m)).graph) depth_is
-        (refuse x.given x.tables x.seen x.frames top all most long ry k k-is b h)
+        (refuse x.given x.tables x.seen x.frames top ry k k-is b h)
 
-    pub x-cut : get_or x.seen at-k.to 0 ≡ 2 → x.tables.n + 2 ≤ 48 → (r : Tables) → CutTo x.tables last.node last.sink k r →
+    pub x-cut : on_path? (get_or x.seen at-k.to Unseen) ≡ true → x.tables.n + 2 ≤ 48 → (r : Tables) → CutTo x.tables last.node last.sink k r →
         Kept x
         (record {
           given = x.given;
           tables = r;
-          seen = set (set x.seen x.tables.n 3) (x.tables.n + 1) 3;
+          seen = set (set x.seen x.tables.n Explored) (x.tables.n + 1) Explored;
           frames = go_on;
           depth = x.depth;
         })
@@ -316,18 +306,18 @@ module _ (x : Explore) (all : length x.seen ≡ 48) (most : length x.frames ≡ 
         (λ m. record {
           given = x.given;
           tables = r;
-          seen = set (set x.seen x.tables.n 3) (x.tables.n + 1) 3;
+          seen = set (set x.seen x.tables.n Explored) (x.tables.n + 1) Explored;
           frames = go_on;
           depth = m;
         })
-        (cutting x.given x.tables x.seen x.frames top all most long ry k k-is b h r made)
+        (cutting x.given x.tables x.seen x.frames top ry k k-is b h r made)
 
 resume-none : (d : ℕ) (u : Walk) → resume d u [] ≡ u
 unfolding resume
 resume-none d u = refl
 
 -- where the walk from p begins, and where the path is empty
-module _ (x : Explore) (all : length x.seen ≡ 48) (most : length x.frames ≡ 48) (rx : Ready x) (p : ℕ) (l : p < x.given) (a : get_or x.seen p 0 ≡ 0) (empty : x.depth ≡ 0) where
+module _ (x : Explore) (rx : Ready x) (p : ℕ) (l : p < x.given) (a : unseen? (get_or x.seen p Unseen) ≡ true) (empty : x.depth ≡ 0) where
   p_in : p < x.tables.n
   p_in = omega (arith, rx.count)
 
@@ -335,23 +325,23 @@ module _ (x : Explore) (all : length x.seen ≡ 48) (most : length x.frames ≡ 
   first = record { node = p; sink = 0 }
 
   abbrev begun : Explore
-  begun = record { given = x.given; tables = x.tables; seen = set x.seen p 2; frames = set x.frames 0 first; depth = 1 }
+  begun = record { given = x.given; tables = x.tables; seen = set x.seen p OnPath; frames = set x.frames 0 first; depth = 1 }
 
   path-is : stack_of no_look (set x.frames 0 first) 1 ≡ first ∷ []
-  path-is = stack_last no_look x.frames 0 first (omega arith)
+  path-is = stack_last no_look x.frames 0 first (omega (arith, rx.most))
 
-  seen-set : take x.tables.n (set x.seen p 2) ≡ set (take x.tables.n x.seen) p 2
-  seen-set = take-set-lt x.tables.n x.seen p 2 p_in
+  seen-set : take x.tables.n (set x.seen p OnPath) ≡ set (take x.tables.n x.seen) p OnPath
+  seen-set = take-set-lt x.tables.n x.seen p OnPath p_in
 
   pub begins : Ready begun
   begins =
-      let v : List ℕ = take x.tables.n x.seen in
-      let less : suc (unseens (set v p 2)) ≡ unseens v =
-      unseens-set v p 2 refl (rw (length-take-le x.tables.n x.seen (omega (arith, rx.sound.linked.nodes))) p_in)
-      (get_or-take x.tables.n x.seen p 3 p_in ∙ get_d_any x.seen p 3 0 (omega (arith, rx.sound.linked.nodes, p_in)) ∙ a) in
-      record { sound = rx.sound; count = rx.count; room = rw seen-set (omega (arith, rx.room)); within = subst (Within x.tables.n) (sym path-is) (p_in, tt) }
+      let v : List Seen = take x.tables.n x.seen in
+      let less : suc (unseens (set v p OnPath)) ≡ unseens v =
+      unseens-set v p OnPath refl (rw (length-take-le x.tables.n x.seen (omega (arith, rx.all, rx.sound.linked.nodes))) p_in)
+      (ap unseen? (get_or-take x.tables.n x.seen p Explored p_in ∙ get_d_any x.seen p Explored Unseen (omega (arith, rx.all, rx.sound.linked.nodes, p_in))) ∙ a) in
+      record { all = simp length-set rx.all; most = simp length-set rx.most; named = rx.named; sound = rx.sound; count = rx.count; room = rw seen-set (omega (arith, rx.room)); within = subst (Within x.tables.n) (sym path-is) (p_in, tt) }
 
-  begun-at : answer begun ≡ resume (x.given - 1) (seeing (walk_of x) p 2) (first ∷ [])
+  begun-at : answer begun ≡ resume (x.given - 1) (seeing (walk_of x) p OnPath) (first ∷ [])
   begun-at = rw (seen-set, path-is)
 
   pub begun-is : answer begun ≡ explore_from x.given (walk_of x) p
@@ -363,3 +353,7 @@ module _ (x : Explore) (all : length x.seen ≡ 48) (most : length x.frames ≡ 
 pub ends : (y : Explore) → y.depth ≤ 0 → answer y ≡ walk_of y
 unfolding resume
 ends y h = let e : y.depth ≡ 0 = omega arith in rw e
+
+-- one step more
+pub since : (x y z : Explore) → Since x y → Kept y z → Since x z
+since x y z a k = record { ready = k.ready; lines = k.lines ∙ a.lines; same = k.same ∙ a.same }

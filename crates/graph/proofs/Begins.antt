@@ -4,51 +4,53 @@ use Prim.Native.Nat.{ℕ, ◌+◌, ◌≤◌, ◌<◌}
 use native.Mathlib.Omega.{arith}
 use native.Mathlib.Nat.{zero-add}
 use mathlib.Core.Path.{◌≡◌, refl, ap, sym, ◌∙◌, subst}
-use mathlib.Core.Bool.{Bool, true, false, cond, true≢false}
+use mathlib.Core.Bool.{Bool, true, false}
 use mathlib.Core.List.{List, [], ◌∷◌, ◌++◌, map, append-nil}
 use lib.Dec.{eqb, leb}
-use lib.ListN.{length, get_or, replicate, get_or-replicate}
+use lib.ListN.{length, get_or, replicate, get_or-replicate, length-map}
 use borrow.Author.Tests.{le-leb, lt-leb}
 use Rattle.laws.specs.Lists.{All, padded}
 use Rattle.laws.proofs.Lists.{all_made, get_d_tabulate, tabulate-same, map-tabulate, capped-room}
 use Rattle.chart.specs.declared.Item.{Item as GivenItem}
 use Rattle.chart.specs.declared.Line.{Line as LineItem}
 use Rattle.chart.specs.declared.Board.{Board as BoardTables}
-use Rattle.chart.specs.declared.Lines.{Lines}
-use Rattle.chart.specs.declared.Answer.TheVariants.{Ready, Refused}
-use Rattle.chart.specs.declared.Outcome.{Outcome as BoardOutcome}
+use Rattle.chart.specs.Tables.{Lines, Items as GivenItems}
+use Rattle.std.specs.Prelude.{Result, Ok, Err}
+use Rattle.refusals.specs.declared.Refusal.{Refusal}
+use Rattle.refusals.specs.declared.Refusal.TheVariants.{ManyBoxes}
 use Rattle.chart.specs.declared.Setting.{Setting}
-use Rattle.chart.specs.Chart.{Board, ends_of as end_count, ready as accepted, refusal as refused, chart}
+use Rattle.chart.specs.Chart.{Board, ends_of as end_count, ready as accepted, chart}
 use Rattle.chart.specs.Chart.{Node as GivenNode}
 use Rattle.chart.specs.Tables.{no_line, lines_from}
 use Rattle.chart.specs.code.Filled.{lines_of as texts_of, owned_lines, board_from, board_of}
 use Rattle.chart.specs.code.Filled.{items_of as ends_of, owned as owned_ends, node_of as given_node_of}
 use Rattle.chart.specs.Accepted.{Formed, Accepted}
 use Rattle.chart.specs.Read.{IsRead}
-use Rattle.chart.specs.code.Reads.{Owned as OwnedEnd, Sound as SoundBoard, reading, read_of, Reads}
+use Rattle.chart.specs.code.Reads.{Owned as OwnedEnd, Sound as SoundBoard, reading_of, read_of, Reads}
 use Rattle.chart.proofs.Held.{tables-held, lines-count}
 use Rattle.chart.proofs.Accepts.{accepted as accepts, reads_of}
 use Rattle.graph.specs.declared.Item.{Item}
-use Rattle.graph.specs.declared.Table.{Table}
+use Rattle.graph.specs.Items.{Items}
+use Rattle.graph.specs.declared.Name.{Name}
+use Rattle.graph.specs.declared.Name.TheVariants.{Nothing}
 use Rattle.graph.specs.declared.Tables.{Tables}
-use Rattle.graph.specs.declared.Outcome.{Outcome}
 use Rattle.graph.specs.Graph.{Line, given, Node, Graph, unmarked, given_node, given_graph}
 use Rattle.graph.specs.Completion.{complete}
 use Rattle.graph.specs.Joining.{leads, leads_of, joined, uncut}
 use Rattle.graph.specs.Cutting.{Walk, cutting}
 use Rattle.graph.specs.Laws.{ends, Aimed as GraphAimed}
-use Rattle.graph.specs.Graphed.{ready, refusal, boxed}
-use Rattle.graph.specs.code.Tables.{owned, items_of, unmarked_item, node_of, number_line, lines_at, lines_of, graph_from, graph_of, Below, Owned, Roomy, Fits, Joined, Completed}
-use Rattle.graph.specs.code.Explore.{Explore, walk_of, CutAll, CutTables, SameGraph, CutIf, over}
+use Rattle.graph.specs.Graphed.{ready, refusal}
+use Rattle.graph.specs.code.Tables.{owned, items_of, unmarked_item, node_of, name_line, lines_at, lines_of, graph_from, graph_of, Below, Owned, Roomy, Fits, Joined, Completed}
+use Rattle.graph.specs.code.Explore.{cut_if, Holds}
 use Rattle.graph.specs.Outcome.{texts_from, names_of, sources_from, sinks_from, table_of, tables_of}
-use Rattle.graph.specs.code.Graphs.{no_nodes, as_is, stage, staged, IsAnswer, in_order, ordered_of, Held, Begun}
+use Rattle.graph.specs.code.Graphs.{stage, staged, IsAnswer, in_order, ordered_of, Held, Begun}
 use Rattle.graph.proofs.Cuts.{length-graph}
 use Rattle.graph.proofs.AimLaws.{cutting-count}
-use Rattle.graph.proofs.Lists.{table-size}
+use Rattle.graph.proofs.Lists.{take_le}
 use Rattle.graph.proofs.Boxes.{sources-held, sinks-held, sources-from, sinks-from}
 use Rattle.graph.proofs.Uncut.{whole_long, same-leads, uncut-long, uncut-aims, uncut-sources, uncut-sinks, offs, uncut-lines, offs-textless, cut_lined, cut-rest, rest-textless}
 use Rattle.graph.proofs.LineLaws.{lines_in, given_lines}
-use Rattle.graph.proofs.Orders.{sources-ordered, sinks-ordered, names-held, Textless, texts-held, done-linked, done-graph}
+use Rattle.graph.proofs.Orders.{sources-ordered, sinks-ordered, names-held, Textless, texts-held, table-back, done-linked, done-graph}
 
 -- ---- the graph that the board gives
 unmarked-owned : (p : ℕ) (xs : List GivenItem) → owned p (map unmarked_item xs) ≡ map unmarked (owned_ends p xs)
@@ -59,24 +61,33 @@ unmarked-owned p (x ∷ xs) = go (unmarked-owned p xs) (eqb x.owner p) refl
     go i true e = rw (e, i)
     go i false e = rw e i
 
-module _ (b : BoardTables) (sound : SoundBoard b) (x y : Table)
-    (hx : (items_of x ≡ map unmarked_item (ends_of b.sources)) × (x.count ≡ b.sources.count))
-    (hy : (items_of y ≡ map unmarked_item (ends_of b.sinks)) × (y.count ≡ b.sinks.count)) where
+module _ (b : BoardTables) (sound : SoundBoard b) (x y : Items)
+    (ex : x ≡ table_of (map unmarked_item (ends_of b.sources)))
+    (ey : y ≡ table_of (map unmarked_item (ends_of b.sinks))) where
   abbrev r : Tables
-  r = record { n = b.n; cuts = 0; names = replicate 48 512; lines = b.lines; sources = x; sinks = y }
+  r = record { n = b.n; cuts = 0; names = replicate 48 Nothing; lines = b.lines; sources = x; sinks = y }
 
   abbrev ts : List LineItem
   ts = texts_of b.lines
 
+  long_of : (xs : GivenItems) → length (map unmarked_item (ends_of xs)) ≤ xs.count
+  long_of xs = omega (arith, length-map (ends_of xs) unmarked_item, take_le xs.count xs.items)
+
+  hx : items_of x ≡ map unmarked_item (ends_of b.sources)
+  hx = ap items_of ex ∙ table-back (map unmarked_item (ends_of b.sources)) (omega (arith, long_of b.sources, sound.ends))
+
+  hy : items_of y ≡ map unmarked_item (ends_of b.sinks)
+  hy = ap items_of ey ∙ table-back (map unmarked_item (ends_of b.sinks)) (omega (arith, long_of b.sinks, sound.ends))
+
   lines_at_lem : (p : ℕ) → p < b.n → get_or (lines_of r) p [] ≡ map given (owned_lines p ts)
   lines_at_lem p h =
-      get_d_tabulate (lines_at ts (replicate 48 512)) 0 b.n p [] h
-      ∙ ap (lines_at ts (replicate 48 512)) (zero-add p)
-      ∙ ap (λ (m : ℕ). map given (owned_lines p ts) ++ number_line m) (get_or-replicate 48 p 512 0 (omega (arith, sound.nodes)))
+      get_d_tabulate (lines_at ts (replicate 48 Nothing)) 0 b.n p [] h
+      ∙ ap (lines_at ts (replicate 48 Nothing)) (zero-add p)
+      ∙ ap (λ (m : Name). map given (owned_lines p ts) ++ name_line m) (get_or-replicate 48 p Nothing Nothing (omega (arith, sound.nodes)))
       ∙ append-nil (map given (owned_lines p ts))
 
   node-same : (p : ℕ) → p < b.n → node_of (lines_of r) (items_of x) (items_of y) p ≡ given_node (given_node_of (ends_of b.sources) ts (ends_of b.sinks) p)
-  node-same p h = rw (hx.0, hy.0, lines_at_lem p h, unmarked-owned p (ends_of b.sources), unmarked-owned p (ends_of b.sinks))
+  node-same p h = rw (hx, hy, lines_at_lem p h, unmarked-owned p (ends_of b.sources), unmarked-owned p (ends_of b.sinks))
 
   graph_same : graph_of r ≡ given_graph (board_of b)
   unfolding graph_from board_from
@@ -93,11 +104,11 @@ module _ (b : BoardTables) (sound : SoundBoard b) (x y : Table)
         charted =
             record {
               nodes = sound.nodes;
-              room = omega (arith, hx.1, hy.1, sound.ends);
-              source_owners = rw hx.0 (owners (ends_of b.sources) sound.sources);
-              sink_owners = rw hy.0 (owners (ends_of b.sinks) sound.sinks);
+              room = omega (arith, ap (λ (u : Items). u.count) ex, ap (λ (u : Items). u.count) ey, long_of b.sources, long_of b.sinks, sound.ends);
+              source_owners = rw hx (owners (ends_of b.sources) sound.sources);
+              sink_owners = rw hy (owners (ends_of b.sinks) sound.sinks);
               line_owners = sound.owners;
-              bare = rw hx.0 (all_made (OwnedEnd b.n) (λ (z : Item). z.mark ≡ 0) unmarked_item (λ z h. refl) (ends_of b.sources) sound.sources);
+              bare = rw hx (all_made (OwnedEnd b.n) (λ (z : Item). z.mark ≡ 0) unmarked_item (λ z h. refl) (ends_of b.sources) sound.sources);
               names = refl;
             };
         graph = graph_same;
@@ -105,10 +116,11 @@ module _ (b : BoardTables) (sound : SoundBoard b) (x y : Table)
         lines = refl;
       }
 
--- ---- the answer of an accepted board
-abbrev whole_of : BoardTables → Walk
-whole_of b = cutting (uncut (board_of b))
+-- ---- a refused chart
+pub none_answers : (why : Refusal) → IsAnswer (refusal why) (Err why)
+none_answers why = record { graphs = refl; whole = refl; linked = λ t e. let z : ◌≡◌ {A = ℕ} 0 1 = cc in absurd (omega arith) }
 
+-- ---- the answer of an accepted board
 fewer : (w : Setting) (s : List ℕ) (n : ℕ) (ps : Board) → All (Formed w s n) ps → All (λ (q : GivenNode). length q.lines ≤ 4) ps
 fewer w s n [] a = tt
 fewer w s n (p ∷ ps) a = (a.0.few, fewer w s n ps a.1)
@@ -146,25 +158,35 @@ lines_are b h g l =
     ∙ rw (texts-are ps g l, capped-room 128 (length (lines_from 0 ps)) (given-few h.setting h.chart_bytes ps h.read))
 
 -- tables in order answer for the graph that they hold
-answered : (t : Tables) → Roomy t → length t.names ≡ 48 → length t.sources.items ≡ 88 → length t.sinks.items ≡ 88 → t.lines ≡ held_lines (graph_of t) → (r : Tables) → r ≡ ordered_of t →
-    IsAnswer (ready (record { graph = graph_of t; cuts = t.cuts })) (record { answer = Ready; graph = r })
-answered t o long lx ly lines r e =
+answered : (t : Tables) → Roomy t → length t.names ≡ 48 → t.lines ≡ held_lines (graph_of t) → (r : Tables) → r ≡ ordered_of t →
+    IsAnswer (ready (record { graph = graph_of t; cuts = t.cuts })) (Ok r)
+answered t o long lines r e =
     let size : length (graph_of t) ≡ t.n = length-graph t.n (lines_of t) (items_of t.sources) (items_of t.sinks) in
-    let names : padded 48 512 (names_of (graph_of t)) ≡ t.names = names-held t long o.linked.nodes o.blank in
+    let names : padded 48 Nothing (names_of (graph_of t)) ≡ t.names = names-held t long o.linked.nodes o.blank in
     let xs : sources_from 0 (graph_of t) ≡ in_order t.n (items_of t.sources) = sources-ordered t.n (lines_of t) (items_of t.sources) (items_of t.sinks) in
     let ys : sinks_from 0 (graph_of t) ≡ in_order t.n (items_of t.sinks) = sinks-ordered t.n (lines_of t) (items_of t.sources) (items_of t.sinks) in
     let made : tables_of (record { graph = graph_of t; cuts = t.cuts }) ≡ r = e-of t r e size names lines xs ys in
     record {
-      graphs = rw e (ap (λ (u : Graph). ready (record { graph = u; cuts = t.cuts })) (done-graph t o.linked lx ly));
-      whole = ap (λ (u : Tables). record { answer = Ready; graph = u }) (sym made);
-      linked = rw e (done-linked t o.linked lx ly);
+      graphs = rw e (ap (λ (u : Graph). ready (record { graph = u; cuts = t.cuts })) (done-graph t o.linked));
+      whole = ap Ok (sym made);
+      linked = λ u q. let z : r ≡ u = cc in rw (← z, e) (done-linked t o.linked);
     }
   where
     e-of : (t r : Tables) → r ≡ ordered_of t →
-        length (graph_of t) ≡ t.n → padded 48 512 (names_of (graph_of t)) ≡ t.names → t.lines ≡ held_lines (graph_of t) →
+        length (graph_of t) ≡ t.n → padded 48 Nothing (names_of (graph_of t)) ≡ t.names → t.lines ≡ held_lines (graph_of t) →
         sources_from 0 (graph_of t) ≡ in_order t.n (items_of t.sources) → sinks_from 0 (graph_of t) ≡ in_order t.n (items_of t.sinks) →
         tables_of (record { graph = graph_of t; cuts = t.cuts }) ≡ r
     e-of t r e size names lines xs ys = cc (ap table_of xs, ap table_of ys)
+
+-- cutting takes no node away
+no-fewer : (cut : Bool) (g : Graph) → length g ≤ length (cut_if cut g).graph
+no-fewer true g = omega (arith, cutting-count g)
+no-fewer false g = omega arith
+
+-- nor a line
+cut-kept : (cut : Bool) (ps : Board) → Kept ps (cut_if cut (uncut ps)).graph
+cut-kept true ps = cut-lines ps
+cut-kept false ps = uncut-kept ps
 
 module _ (b : BoardTables) (h : Held b) (t₀ t₁ : Tables) (begin : Begun b t₀) (done : Completed t₀ t₁) where
   abbrev board : Board
@@ -180,9 +202,8 @@ module _ (b : BoardTables) (h : Held b) (t₀ t₁ : Tables) (begin : Begun b t�
   leads-is = ap (leads t₁.n) whole-graph ∙ ap (λ (k : ℕ). leads k (complete (given_graph board))) (n-is ∙ sym (whole_long board)) ∙ same-leads board
 
   -- the boxes of the leads alone are too many
-  pub drawn-many : (cut : Bool) → 48 < t₁.n + leads t₁.n (graph_of t₁) → (r : Outcome) → IsAnswer (refusal 13 0) r → IsAnswer (stage cut (uncut board)) r
-  drawn-many true m r a = rw (lt-leb (length (whole_of b).graph) 48 (omega (arith, m, n-is, leads-is, uncut-long board, cutting-count (uncut board)))) a
-  drawn-many false m r a = rw (lt-leb (length (uncut board)) 48 (omega (arith, m, n-is, leads-is, uncut-long board))) a
+  pub drawn-many : (cut : Bool) → 48 < t₁.n + leads t₁.n (graph_of t₁) → IsAnswer (stage cut (uncut board)) (Err ManyBoxes)
+  drawn-many cut m = rw (lt-leb (length (cut_if cut (uncut board)).graph) 48 (omega (arith, m, n-is, leads-is, uncut-long board, no-fewer cut (uncut board)))) (none_answers ManyBoxes)
 
   joined_is : joined t₁.n (graph_of t₁) ≡ uncut board
   unfolding uncut
@@ -207,20 +228,17 @@ module _ (b : BoardTables) (h : Held b) (t₀ t₁ : Tables) (begin : Begun b t�
   fitted : graph_of t₂ ≡ uncut ps₂
   fitted = j.graph ∙ joined_is b h t₀ t₁ begin done
 
-  whole_is : cutting (graph_of t₂) ≡ whole_of b
-  whole_is = ap cutting fitted
-
   -- each target is a node, and there is room for the cuts
-  pub drawn_roomy : length t₂.sources.items ≡ 88 → length t₂.sinks.items ≡ 88 → Roomy t₂
-  drawn_roomy lx ly =
+  pub drawn_roomy : Roomy t₂
+  drawn_roomy =
       let o : Owned t₂ = j.standing.owned in
       let xs : List Item = items_of t₂.sources in
       let ys : List Item = items_of t₂.sinks in
       let size : length (graph_of t₂) ≡ t₂.n = length-graph t₂.n (lines_of t₂) xs ys in
       let aims : GraphAimed t₂.n (graph_of t₂) = subst (λ (k : ℕ). GraphAimed k (graph_of t₂)) size (subst (λ (u : Graph). GraphAimed (length u) u) (sym fitted) (uncut-aims ps₂)) in
       let f : end_count ps₂ ≤ 64 = few b h t₀ t₁ begin done in
-      let cx : t₂.sources.count ≤ 64 = omega (arith, table-size t₂.sources lx o.source_room, sources-held (lines_of t₂) xs ys t₂.n o.source_owners, ap (ends (λ (x : Node). x.sources)) fitted, uncut-sources ps₂ 64 f) in
-      let cy : t₂.sinks.count ≤ 64 = omega (arith, table-size t₂.sinks ly o.sink_room, sinks-held (lines_of t₂) xs ys t₂.n o.sink_owners, ap (ends (λ (x : Node). x.sinks)) fitted, uncut-sinks ps₂ 64 f) in
+      let cx : length xs ≤ 64 = omega (arith, sources-held (lines_of t₂) xs ys t₂.n o.source_owners, ap (ends (λ (x : Node). x.sources)) fitted, uncut-sources ps₂ 64 f) in
+      let cy : length ys ≤ 64 = omega (arith, sinks-held (lines_of t₂) xs ys t₂.n o.sink_owners, ap (ends (λ (x : Node). x.sinks)) fitted, uncut-sinks ps₂ 64 f) in
       record {
         linked =
             record {
@@ -238,95 +256,42 @@ module _ (b : BoardTables) (h : Held b) (t₀ t₁ : Tables) (begin : Begun b t�
         blank = j.standing.blank;
       }
 
-  pub drawn-refused : (y : Explore) → CutAll t₂ false y → (r : Outcome) → IsAnswer (refusal 13 0) r → IsAnswer (boxed (whole_of b)) r
-  drawn-refused y o r a = rw (lt-leb (length (whole_of b).graph) 48 (rw whole_is at o)) a
+  -- cut or not: too many boxes, or the answer
+  pub stage-refused : (cut : Bool) → 48 < length (cut_if cut (graph_of t₂)).graph → IsAnswer (stage cut (uncut ps₂)) (Err ManyBoxes)
+  stage-refused cut o = rw (lt-leb (length (cut_if cut (uncut ps₂)).graph) 48 (rw fitted at o)) (none_answers ManyBoxes)
 
-  pub drawn-cuts : t₂.cuts ≡ 0
-  drawn-cuts = j.cuts ∙ done.same.cuts ∙ begin.cuts
-
-  pub drawn-ready : (y : Explore) → CutAll t₂ true y → length y.tables.names ≡ 48 → length y.tables.sources.items ≡ 88 → length y.tables.sinks.items ≡ 88 → (r : Tables) →
-      r ≡ ordered_of y.tables →
-      IsAnswer (boxed (whole_of b)) (record { answer = Ready; graph = r })
-  drawn-ready y o long lx ly r e =
-      let t : Tables = y.tables in
-      let w : walk_of y ≡ whole_of b = o.2 ∙ whole_is in
-      let g : graph_of t ≡ (whole_of b).graph = ap (λ (u : Walk). u.graph) w in
-      let size : length (graph_of t) ≡ t.n = length-graph t.n (lines_of t) (items_of t.sources) (items_of t.sinks) in
-      let fits : leb (length (graph_of t)) 48 ≡ true = le-leb (length (graph_of t)) 48 (omega (arith, o.0.linked.nodes)) in
-      let lines : t.lines ≡ held_lines (graph_of t) = o.1 ∙ j.lines ∙ done.same.lines ∙ begin.lines ∙ lines_are b h (whole_of b).graph (cut-lines ps₂) ∙ ap held_lines (sym g) in
-      rw (← w, fits) (answered t o.0 long lx ly lines r e)
-
-  uncut-ready : (t : Tables) → SameGraph t₂ t → length t.names ≡ 48 → length t.sources.items ≡ 88 → length t.sinks.items ≡ 88 → (r : Tables) → r ≡ ordered_of t →
-      IsAnswer (as_is (uncut ps₂)) (record { answer = Ready; graph = r })
-  uncut-ready t o long lx ly r e =
-      let g : graph_of t ≡ uncut ps₂ = o.graph ∙ fitted in
+  pub stage-ready : (cut : Bool) (t : Tables) → Holds t₂ t (cut_if cut (graph_of t₂)) → (r : Tables) → r ≡ ordered_of t →
+      IsAnswer (stage cut (uncut ps₂)) (Ok r)
+  stage-ready cut t o r e =
+      let w : Walk = cut_if cut (uncut ps₂) in
+      let g : graph_of t ≡ w.graph = o.graph ∙ ap (λ (u : Graph). (cut_if cut u).graph) fitted in
+      let k : t.cuts ≡ w.cuts = o.cuts ∙ ap (λ (u : Graph). (cut_if cut u).cuts) fitted in
       let size : length (graph_of t) ≡ t.n = length-graph t.n (lines_of t) (items_of t.sources) (items_of t.sinks) in
       let fits : leb (length (graph_of t)) 48 ≡ true = le-leb (length (graph_of t)) 48 (omega (arith, size, o.sound.linked.nodes)) in
-      let lines : t.lines ≡ held_lines (graph_of t) = o.lines ∙ j.lines ∙ done.same.lines ∙ begin.lines ∙ lines_are b h (uncut ps₂) (uncut-kept ps₂) ∙ ap held_lines (sym g) in
-      subst (λ (k : ℕ). IsAnswer (cond (leb (length (uncut ps₂)) 48) (ready (record { graph = uncut ps₂; cuts = k })) (refusal 13 0)) (record { answer = Ready; graph = r })) o.cuts
-      (rw (← g, fits) (answered t o.sound long lx ly lines r e))
-
-  -- cut or not
-  pub stage-ready : (cut ok : Bool) (t : Tables) → CutIf cut t₂ ok t → ok ≡ true → length t.names ≡ 48 → length t.sources.items ≡ 88 → length t.sinks.items ≡ 88 → (r : Tables) → r ≡ ordered_of t →
-      IsAnswer (stage cut (uncut ps₂)) (record { answer = Ready; graph = r })
-  stage-ready true ok t o z long lx ly r e =
-      let a : CutTables t₂ true t = subst (λ (k : Bool). CutTables t₂ k t) z o in
-      drawn-ready (over t a.standing) a.cut long lx ly r e
-  stage-ready false ok t o z long lx ly r e = uncut-ready t o.1 long lx ly r e
-
-  pub stage-refused : (cut ok : Bool) (t : Tables) → CutIf cut t₂ ok t → ok ≡ false → (r : Outcome) → IsAnswer (refusal 13 0) r → IsAnswer (stage cut (uncut ps₂)) r
-  stage-refused true ok t o z r a =
-      let k : CutTables t₂ false t = subst (λ (i : Bool). CutTables t₂ i t) z o in
-      drawn-refused (over t k.standing) k.cut r a
-  stage-refused false ok t o z r a = absurd (true≢false (sym o.0 ∙ z))
-
-  pub stage_roomy : (cut ok : Bool) (t : Tables) → CutIf cut t₂ ok t → ok ≡ true → Roomy t
-  stage_roomy true ok t o z = let a : CutTables t₂ true t = subst (λ (k : Bool). CutTables t₂ k t) z o in a.cut.0
-  stage_roomy false ok t o z = o.1.sound
+      let lines : t.lines ≡ held_lines (graph_of t) = o.lines ∙ j.lines ∙ done.same.lines ∙ begin.lines ∙ lines_are b h w.graph (cut-kept cut ps₂) ∙ ap held_lines (sym g) in
+      rw (← g, ← k, fits) (answered t o.sound o.named lines r e)
 
 -- ---- the answer of `chart::read`
-module _ (w : Setting) (s : List ℕ) (o : BoardOutcome) (promised : IsRead w s o) where
+module _ (w : Setting) (s : List ℕ) (o : Result BoardTables Refusal) (promised : IsRead w s o) where
   is : Reads w s o
   is = reads_of w s o promised
 
-  pub read-ready : o.answer ≡ Ready → chart w s ≡ accepted (board_of o.board)
-  read-ready e = sym is.reads ∙ ap (λ a. reading a (board_of o.board)) e
+  module _ (b : BoardTables) (e : o ≡ Ok b) where
+    pub read-ready : chart w s ≡ accepted (board_of b)
+    read-ready = sym is.reads ∙ ap reading_of e
 
-  pub read-refused : (a c : ℕ) → o.answer ≡ Refused a c → chart w s ≡ refused a c
-  read-refused a c e = sym is.reads ∙ ap (λ d. reading d (board_of o.board)) e
+    pub read_held : Held b
+    read_held =
+        record {
+          setting = w;
+          sound = is.sound b e;
+          chart_bytes = s;
+          read = read-ready;
+          whole = let z : Ok b ≡ read_of (accepted (board_of b)) = sym e ∙ is.whole ∙ ap read_of read-ready in cc;
+        }
 
-  pub read_held : o.answer ≡ Ready → Held o.board
-  read_held e =
-      record {
-        setting = w;
-        sound = is.sound;
-        chart_bytes = s;
-        read = read-ready e;
-        whole = ap (λ (p : BoardOutcome). p.board) (is.whole ∙ ap read_of (read-ready e));
-      }
+    pub stage-read : (cut : Bool) → (r : Result Tables Refusal) → IsAnswer (stage cut (uncut (board_of b))) r → IsAnswer (staged cut (chart w s)) r
+    stage-read cut r a = rw read-ready a
 
-  pub stage-read : (cut : Bool) → o.answer ≡ Ready → (r : Outcome) → IsAnswer (stage cut (uncut (board_of o.board))) r → IsAnswer (staged cut (chart w s)) r
-  stage-read cut e r a = rw (read-ready e) a
-
-  pub stage_not : (cut : Bool) (a c : ℕ) → o.answer ≡ Refused a c → (r : Outcome) → IsAnswer (refusal a c) r → IsAnswer (staged cut (chart w s)) r
-  stage_not cut a c e r x = rw (read-refused a c e) x
-
--- ---- a refused chart
-pub none_answers : (a c : ℕ) (t : Tables) → t ≡ no_nodes → IsAnswer (refusal a c) (record { answer = Refused a c; graph = t })
-none_answers a c t e =
-    rw e
-    (record {
-      graphs = refl;
-      whole = refl;
-      linked =
-          record {
-            nodes = omega arith;
-            source_room = omega arith;
-            sink_room = omega arith;
-            source_owners = tt;
-            sink_owners = tt;
-            source_aims = tt;
-            sink_aims = tt;
-            line_owners = tt;
-          };
-    })
+  pub stage_not : (cut : Bool) (why : Refusal) → o ≡ Err why → IsAnswer (staged cut (chart w s)) (Err why)
+  stage_not cut why e = rw (sym is.reads ∙ ap reading_of e) (none_answers why)

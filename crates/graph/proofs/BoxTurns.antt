@@ -2,28 +2,32 @@
 -- Assumes nothing.
 use Prim.Native.Nat.{ℕ, ◌+◌, ◌≤◌, ◌<◌}
 use native.Mathlib.Omega.{arith}
-use mathlib.Core.Path.{◌≡◌, refl, ap}
-use mathlib.Core.List.{List, ◌++◌}
+use mathlib.Core.Path.{◌≡◌, refl, ap, ◌∙◌}
+use mathlib.Core.Bool.{Bool}
+use mathlib.Core.List.{List}
+use lib.Dec.{ltb}
 use lib.ListN.{length, get_or, set}
+use Rattle.std.proofs.lemmas.List.{length-take}
 use borrow.Author.Tests.{lt-ltb}
-use Rattle.laws.specs.Lists.{one}
+use Rattle.tables.specs.Tables.{pushed_if}
 use Rattle.graph.specs.declared.Item.{Item}
-use Rattle.graph.specs.declared.Table.{Table}
+use Rattle.graph.specs.Items.{Items}
+use Rattle.graph.specs.declared.Name.TheVariants.{Invalid}
 use Rattle.graph.specs.declared.Tables.{Tables}
 use Rattle.graph.specs.Joining.{join_sink, join_source, join_sinks, join_sources}
 use Rattle.graph.specs.Outcome.{no_item}
 use Rattle.graph.specs.code.Tables.{owned, edge_of, items_of, graph_of, lines_of, source_of, sink_of, point_item, Sunk, Fits}
-use Rattle.graph.proofs.Lists.{table-size, table_at}
-use Rattle.graph.proofs.Cuts.{length-graph, owned_le, sunk-less}
-use Rattle.graph.proofs.Boxes.{Going, going_other, going_sunk, going_fits, going_own, end_kept, sink-joined, source_joined, sink_room, source_room, sinks-within, sources-within, sources-held, sinks-held}
+use Rattle.graph.proofs.Lists.{push-items, put-item, table-size}
+use Rattle.graph.proofs.Cuts.{length-graph}
+use Rattle.graph.proofs.Boxes.{Going, going_other, going_sunk, going_at, going_fits, going_own, end_kept, sink-joined, source_joined, sink_room, source_room, sinks-within, sources-within, sources-held, sinks-held}
 
--- the tables t with other nodes, names, sources and sinks
-abbrev pub with : Tables → ℕ → List ℕ → Table → Table → Tables
-with t n names sources sinks = record { n = n; cuts = t.cuts; names = names; lines = t.lines; sources = sources; sinks = sinks }
+-- record k of a table leads to a
+abbrev pub pointed_at : Items → ℕ → ℕ → Items
+pointed_at t k a = record { items = set t.items k (point_item a (get_or t.items k no_item)); count = t.count }
 
 -- ---- the sinks of p
-module _ (t : Tables) (n p : ℕ) (hp : p < t.n) (f : Fits (join_sinks n (graph_of t) p 0 (owned p (items_of t.sinks)))) (s : Tables) (long : length s.sinks.items ≡ 88) (other-long : length s.sources.items ≡ 88)
-    (i k : ℕ) (l : Going (λ u. u.sinks) (join_sink n) (join_sinks n) t p s i k) (h : k < s.sinks.count) where
+module _ (t : Tables) (n p : ℕ) (hp : p < t.n) (f : Fits (join_sinks n (graph_of t) p 0 (owned p (items_of t.sinks)))) (s : Tables) (i k : ℕ) (l : Going (λ u. u.sinks) (join_sink n) (join_sinks n) t p s i k)
+    (h : k < length (items_of t.sinks)) where
   abbrev xs₁ : List Item
   xs₁ = items_of s.sinks
 
@@ -31,46 +35,45 @@ module _ (t : Tables) (n p : ℕ) (hp : p < t.n) (f : Fits (join_sinks n (graph_
   e₁ = get_or s.sinks.items k no_item
 
   same₁ : get_or xs₁ k no_item ≡ e₁
-  same₁ = table_at s.sinks long l.standing.owned.sink_room k h
+  same₁ = going_at (λ u. u.sinks) (join_sink n) (join_sinks n) (λ g p i e es. refl) t p s i k l h
 
   pub sinks-other : (e₁.owner ≡ p → ⊥) → Going (λ u. u.sinks) (join_sink n) (join_sinks n) t p s i (k + 1)
-  sinks-other o = going_other (λ u. u.sinks) (join_sink n) (join_sinks n) (λ g p i e es. refl) t p s long l.standing.owned.sink_room i k l h o
+  sinks-other o = going_other (λ u. u.sinks) (join_sink n) (join_sinks n) (λ g p i e es. refl) t p s i k l h o
 
   module _ (o : e₁.owner ≡ p) where
     sunk₁ : Sunk xs₁ p i k
-    sunk₁ = going_sunk (λ u. u.sinks) (join_sink n) (join_sinks n) (λ g p i e es. refl) t p s long l.standing.owned.sink_room i k l h o
-
-    pub sinks-number : i < 88
-    sinks-number = omega (arith, sunk-less xs₁ p i k sunk₁, owned_le p xs₁, table-size s.sinks long l.standing.owned.sink_room, l.standing.owned.sink_room)
+    sunk₁ = going_sunk (λ u. u.sinks) (join_sink n) (join_sinks n) (λ g p i e es. refl) t p s i k l h o
 
     -- it leads to one of the n nodes
     pub sinks-kept : e₁.to < n → Going (λ u. u.sinks) (join_sink n) (join_sinks n) t p s (i + 1) (k + 1)
     sinks-kept z =
-        going_own (λ u. u.sinks) (join_sink n) (join_sinks n) (λ g p i e es. refl) t p s long l.standing.owned.sink_room i k l h o s
+        going_own (λ u. u.sinks) (join_sink n) (join_sinks n) (λ g p i e es. refl) t p s i k l h o s
         (end_kept (λ u. u.sinks) (join_sink n) s p i k l.standing (rw (same₁, lt-ltb e₁.to n z)))
 
     -- it leads to none: there is room for its box
     module _ (out : n ≤ e₁.to) where
-      pub sinks_room : (s.n < 48) × (s.sources.count < 88)
-      sinks_room =
-          let g = going_fits (λ u. u.sinks) (join_sink n) (join_sinks n) (λ g p i e es. refl) t p s long l.standing.owned.sink_room i k l h o (sinks-within n) f in
-          let r = sink_room n (graph_of s) p i (edge_of (get_or xs₁ k no_item)) (rw same₁ out) g in (
-            omega (arith, r.0, length-graph s.n (lines_of s) (items_of s.sources) (items_of s.sinks)),
-            omega (arith, r.1, sources-held (lines_of s) (items_of s.sources) (items_of s.sinks) s.n l.standing.owned.source_owners, table-size s.sources other-long l.standing.owned.source_room),
-          )
+      fits₁ : Fits (join_sink n (graph_of s) p i (edge_of (get_or xs₁ k no_item)))
+      fits₁ = going_fits (λ u. u.sinks) (join_sink n) (join_sinks n) (λ g p i e es. refl) t p s i k l h o (sinks-within n) f
+
+      pub sinks-room : s.n < 48
+      sinks-room = omega (arith, (sink_room n (graph_of s) p i (edge_of (get_or xs₁ k no_item)) (rw same₁ out) fits₁).0, length-graph s.n (lines_of s) (items_of s.sources) (items_of s.sinks))
 
       -- and the tables with it
-      pub sinks_joined : length s.names ≡ 48 → e₁.to < 256 → (pushed pointed : Table) → items_of pushed ≡ items_of s.sources ++ one (source_of p i s.n) → items_of pointed ≡ set xs₁ k (point_item s.n (get_or xs₁ k no_item)) →
-          pushed.count ≡ s.sources.count + 1 → pointed.count ≡ s.sinks.count →
-          Going (λ u. u.sinks) (join_sink n) (join_sinks n) t p (with s (s.n + 1) (set s.names s.n (256 + e₁.to)) pushed pointed) (i + 1) (k + 1)
-      sinks_joined names byte pushed pointed ep ei cp ci =
-          let r : Tables = with s (s.n + 1) (set s.names s.n (256 + e₁.to)) pushed pointed in
-          going_own (λ u. u.sinks) (join_sink n) (join_sinks n) (λ g p i e es. refl) t p s long l.standing.owned.sink_room i k l h o r
-          (sink-joined s r l.standing n p i k (omega (arith, hp, l.more)) sinks_room.0 names e₁.to byte refl refl refl sunk₁ (ap (λ (x : Item). x.to) same₁) out ep ei cp ci sinks_room.1 refl)
+      pub sinks-joined : length s.names ≡ 48 → length s.sources.items ≡ 88 → (room : Bool) (r : Items) → room ≡ ltb s.sources.count 88 → r ≡ pushed_if room s.sources (source_of p i s.n) →
+          Going (λ u. u.sinks) (join_sink n) (join_sinks n) t p (record { n = s.n + 1; cuts = s.cuts; names = set s.names s.n (Invalid e₁.to); lines = s.lines; sources = r; sinks = pointed_at s.sinks k s.n }) (i + 1) (k + 1)
+      sinks-joined names long room r b e =
+          let q : Tables = record { n = s.n + 1; cuts = s.cuts; names = set s.names s.n (Invalid e₁.to); lines = s.lines; sources = r; sinks = pointed_at s.sinks k s.n } in
+          let inside : k < s.sinks.count = omega (arith, sunk₁.inside, length-take s.sinks.count s.sinks.items) in
+          let left : s.sources.count < 88 =
+          omega (arith, (sink_room n (graph_of s) p i (edge_of (get_or xs₁ k no_item)) (rw same₁ out) fits₁).1, sources-held (lines_of s) (items_of s.sources) (items_of s.sinks) s.n l.standing.owned.source_owners, table-size s.sources long l.standing.owned.source_room) in
+          let more = push-items s.sources (source_of p i s.n) room r b e long left in
+          let put : items_of (pointed_at s.sinks k s.n) ≡ set xs₁ k (point_item s.n (get_or xs₁ k no_item)) = put-item s.sinks k (point_item s.n e₁) inside ∙ rw same₁ in
+          going_own (λ u. u.sinks) (join_sink n) (join_sinks n) (λ g p i e es. refl) t p s i k l h o q
+          (sink-joined s q l.standing n p i k (omega (arith, hp, l.more)) sinks-room names e₁.to refl refl refl sunk₁ (ap (λ (x : Item). x.to) same₁) out more.0 put more.1 refl left refl)
 
 -- ---- the sources of p
-module _ (t : Tables) (n p : ℕ) (hp : p < t.n) (f : Fits (join_sources n (graph_of t) p 0 (owned p (items_of t.sources)))) (s : Tables) (long : length s.sources.items ≡ 88) (other-long : length s.sinks.items ≡ 88)
-    (i k : ℕ) (l : Going (λ u. u.sources) (join_source n) (join_sources n) t p s i k) (h : k < s.sources.count) where
+module _ (t : Tables) (n p : ℕ) (hp : p < t.n) (f : Fits (join_sources n (graph_of t) p 0 (owned p (items_of t.sources)))) (s : Tables) (i k : ℕ) (l : Going (λ u. u.sources) (join_source n) (join_sources n) t p s i k)
+    (h : k < length (items_of t.sources)) where
   abbrev xs₂ : List Item
   xs₂ = items_of s.sources
 
@@ -78,39 +81,38 @@ module _ (t : Tables) (n p : ℕ) (hp : p < t.n) (f : Fits (join_sources n (grap
   e₂ = get_or s.sources.items k no_item
 
   same₂ : get_or xs₂ k no_item ≡ e₂
-  same₂ = table_at s.sources long l.standing.owned.source_room k h
+  same₂ = going_at (λ u. u.sources) (join_source n) (join_sources n) (λ g p i e es. refl) t p s i k l h
 
   pub sources-other : (e₂.owner ≡ p → ⊥) → Going (λ u. u.sources) (join_source n) (join_sources n) t p s i (k + 1)
-  sources-other o = going_other (λ u. u.sources) (join_source n) (join_sources n) (λ g p i e es. refl) t p s long l.standing.owned.source_room i k l h o
+  sources-other o = going_other (λ u. u.sources) (join_source n) (join_sources n) (λ g p i e es. refl) t p s i k l h o
 
   module _ (o : e₂.owner ≡ p) where
     sunk₂ : Sunk xs₂ p i k
-    sunk₂ = going_sunk (λ u. u.sources) (join_source n) (join_sources n) (λ g p i e es. refl) t p s long l.standing.owned.source_room i k l h o
-
-    pub sources-number : i < 88
-    sources-number = omega (arith, sunk-less xs₂ p i k sunk₂, owned_le p xs₂, table-size s.sources long l.standing.owned.source_room, l.standing.owned.source_room)
+    sunk₂ = going_sunk (λ u. u.sources) (join_source n) (join_sources n) (λ g p i e es. refl) t p s i k l h o
 
     -- it leads to one of the n nodes
-    pub sources_kept : e₂.to < n → Going (λ u. u.sources) (join_source n) (join_sources n) t p s (i + 1) (k + 1)
-    sources_kept z =
-        going_own (λ u. u.sources) (join_source n) (join_sources n) (λ g p i e es. refl) t p s long l.standing.owned.source_room i k l h o s
+    pub sources-kept : e₂.to < n → Going (λ u. u.sources) (join_source n) (join_sources n) t p s (i + 1) (k + 1)
+    sources-kept z =
+        going_own (λ u. u.sources) (join_source n) (join_sources n) (λ g p i e es. refl) t p s i k l h o s
         (end_kept (λ u. u.sources) (join_source n) s p i k l.standing (rw (same₂, lt-ltb e₂.to n z)))
 
     -- it leads to none: there is room for its box
     module _ (out : n ≤ e₂.to) where
-      pub sources-room : (s.n < 48) × (s.sinks.count < 88)
-      sources-room =
-          let g = going_fits (λ u. u.sources) (join_source n) (join_sources n) (λ g p i e es. refl) t p s long l.standing.owned.source_room i k l h o (sources-within n) f in
-          let r = source_room n (graph_of s) p i (edge_of (get_or xs₂ k no_item)) (rw same₂ out) g in (
-            omega (arith, r.0, length-graph s.n (lines_of s) (items_of s.sources) (items_of s.sinks)),
-            omega (arith, r.1, sinks-held (lines_of s) (items_of s.sources) (items_of s.sinks) s.n l.standing.owned.sink_owners, table-size s.sinks other-long l.standing.owned.sink_room),
-          )
+      fits₂ : Fits (join_source n (graph_of s) p i (edge_of (get_or xs₂ k no_item)))
+      fits₂ = going_fits (λ u. u.sources) (join_source n) (join_sources n) (λ g p i e es. refl) t p s i k l h o (sources-within n) f
+
+      pub sources-room : s.n < 48
+      sources-room = omega (arith, (source_room n (graph_of s) p i (edge_of (get_or xs₂ k no_item)) (rw same₂ out) fits₂).0, length-graph s.n (lines_of s) (items_of s.sources) (items_of s.sinks))
 
       -- and the tables with it
-      pub sources_joined : length s.names ≡ 48 → e₂.to < 256 → (pushed pointed : Table) → items_of pushed ≡ items_of s.sinks ++ one (sink_of p s.n) → items_of pointed ≡ set xs₂ k (point_item s.n (get_or xs₂ k no_item)) →
-          pushed.count ≡ s.sinks.count + 1 → pointed.count ≡ s.sources.count →
-          Going (λ u. u.sources) (join_source n) (join_sources n) t p (with s (s.n + 1) (set s.names s.n (256 + e₂.to)) pointed pushed) (i + 1) (k + 1)
-      sources_joined names byte pushed pointed ep ei cp ci =
-          let r : Tables = with s (s.n + 1) (set s.names s.n (256 + e₂.to)) pointed pushed in
-          going_own (λ u. u.sources) (join_source n) (join_sources n) (λ g p i e es. refl) t p s long l.standing.owned.source_room i k l h o r
-          (source_joined s r l.standing n p i k (omega (arith, hp, l.more)) sources-room.0 names e₂.to byte refl refl refl sunk₂ (ap (λ (x : Item). x.to) same₂) out ei ep ci cp sources-room.1 refl)
+      pub sources-joined : length s.names ≡ 48 → length s.sinks.items ≡ 88 → (room : Bool) (r : Items) → room ≡ ltb s.sinks.count 88 → r ≡ pushed_if room s.sinks (sink_of p s.n) →
+          Going (λ u. u.sources) (join_source n) (join_sources n) t p (record { n = s.n + 1; cuts = s.cuts; names = set s.names s.n (Invalid e₂.to); lines = s.lines; sources = pointed_at s.sources k s.n; sinks = r }) (i + 1) (k + 1)
+      sources-joined names long room r b e =
+          let q : Tables = record { n = s.n + 1; cuts = s.cuts; names = set s.names s.n (Invalid e₂.to); lines = s.lines; sources = pointed_at s.sources k s.n; sinks = r } in
+          let inside : k < s.sources.count = omega (arith, sunk₂.inside, length-take s.sources.count s.sources.items) in
+          let left : s.sinks.count < 88 =
+          omega (arith, (source_room n (graph_of s) p i (edge_of (get_or xs₂ k no_item)) (rw same₂ out) fits₂).1, sinks-held (lines_of s) (items_of s.sources) (items_of s.sinks) s.n l.standing.owned.sink_owners, table-size s.sinks long l.standing.owned.sink_room) in
+          let more = push-items s.sinks (sink_of p s.n) room r b e long left in
+          let put : items_of (pointed_at s.sources k s.n) ≡ set xs₂ k (point_item s.n (get_or xs₂ k no_item)) = put-item s.sources k (point_item s.n e₂) inside ∙ rw same₂ in
+          going_own (λ u. u.sources) (join_source n) (join_sources n) (λ g p i e es. refl) t p s i k l h o q
+          (source_joined s q l.standing n p i k (omega (arith, hp, l.more)) sources-room names e₂.to refl refl refl sunk₂ (ap (λ (x : Item). x.to) same₂) out put more.0 refl more.1 left refl)

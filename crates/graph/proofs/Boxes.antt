@@ -8,10 +8,12 @@ use mathlib.Core.Path.{◌≡◌, refl, ap, sym, ◌∙◌, subst}
 use mathlib.Core.Bool.{Bool, true, false, cond}
 use mathlib.Core.Option.{Option, some}
 use mathlib.Core.List.{List, [], ◌∷◌, ◌++◌}
-use lib.Dec.{eqb, ltb}
+use lib.Dec.{eqb, leb, ltb}
 use lib.ListN.{length, get_or, set, take, drop, length-set, length-append, get_or-append}
-use lib.Seq.{get_or-set_same, get_or-set_other, get_or_at, take-suc, set-get_or, drop-cons, drop-set-lt, take-set-le}
-use borrow.Author.Tests.{eq-eqb, ne_eqb, eqb-true, eqb-false, lt-ltb, le-ltb}
+use lib.Seq.{get_or-set_same, get_or-set_other, get_or_at, get_or-take, set-get_or, drop-cons, drop-set-lt, take-set-le}
+use Rattle.std.specs.List.{filter}
+use Rattle.std.proofs.lemmas.List.{length-take}
+use borrow.Author.Tests.{eq-eqb, eqb-true, eqb-false, ltb-true, ltb-false, lt-leb, le-leb, le-ltb}
 use Rattle.laws.specs.Each.{each}
 use Rattle.laws.specs.Lists.{All, keep, one, tabulate}
 use Rattle.laws.proofs.Each.{next}
@@ -20,7 +22,9 @@ use Rattle.laws.proofs.Tests.{pick}
 use Rattle.chart.specs.declared.Line.{Line as LineItem}
 use Rattle.chart.specs.code.Filled.{lines_of as texts_of}
 use Rattle.graph.specs.declared.Item.{Item}
-use Rattle.graph.specs.declared.Table.{Table}
+use Rattle.graph.specs.Items.{Items}
+use Rattle.graph.specs.declared.Name.{Name}
+use Rattle.graph.specs.declared.Name.TheVariants.{Nothing, Invalid}
 use Rattle.graph.specs.declared.Tables.{Tables}
 use Rattle.graph.specs.Graph.{Line, invalid, Edge, Node, Graph, no_text, node_at, with_sources, with_sinks}
 use Rattle.graph.specs.Cutting.{pointed}
@@ -29,7 +33,7 @@ use Rattle.graph.specs.Laws.{ends, Aimed as GraphAimed}
 use Rattle.graph.specs.code.Tables.{owned, edge_of, mark_of, source_of, sink_of, node_of, lines_at, lines_of, graph_from, graph_of, items_of, point_item, far, dues, Below, Texted, Sunk, Owned, Standing, Fits, EndJoined, EndsJoined, Joined}
 use Rattle.graph.specs.Outcome.{no_item}
 use Rattle.graph.specs.code.Tables.{Aimed}
-use Rattle.graph.proofs.Lists.{node-graph, owned-end, owned-other, owned-own, table-size, table_at}
+use Rattle.graph.proofs.Lists.{node-graph, owned-end, owned-other, owned-own}
 use Rattle.graph.proofs.Gains.{owned-new, owned-old}
 use Rattle.graph.proofs.Cuts.{length-graph, point_graph, mark-graph, below_set, below_one, below_more, none_owned, texted-none, texted-more, counted-own, counted-other}
 use Rattle.graph.proofs.Pairs.{false_true, dues-gone, dues-none}
@@ -68,23 +72,13 @@ module _ (ls : List (List Line)) (xs ys : List Item) where
 
 -- ---- the records that lead to none of the first n nodes
 module _ (n : ℕ) where
-  far-snoc : (xs : List Item) (x : Item) → length (far n (xs ++ one x)) ≡ cond (ltb x.to n) (length (far n xs)) (suc (length (far n xs)))
-  far-snoc [] x = either (λ c. length (cond c [] (x ∷ [])) ≡ cond c 0 1) refl refl (ltb x.to n)
-  far-snoc (y ∷ xs) x =
-      either
-      (λ c. length (cond c (far n (xs ++ one x)) (y ∷ far n (xs ++ one x))) ≡ cond (ltb x.to n) (length (cond c (far n xs) (y ∷ far n xs))) (suc (length (cond c (far n xs) (y ∷ far n xs)))))
-      (far-snoc xs x)
-      (ap suc (far-snoc xs x) ∙ either (λ d. suc (cond d (length (far n xs)) (suc (length (far n xs)))) ≡ cond d (suc (length (far n xs))) (suc (suc (length (far n xs))))) refl refl (ltb x.to n))
-      (ltb y.to n)
-
-  far-next : (xs : List Item) (k : ℕ) → k < length xs → length (far n (take (k + 1) xs)) ≡ cond (ltb (get_or xs k no_item).to n) (length (far n (take k xs))) (suc (length (far n (take k xs))))
-  far-next xs k h = ap (λ (j : ℕ). length (far n (take j xs))) (add-one k) ∙ ap (λ (l : List Item). length (far n l)) (take-suc xs k no_item h) ∙ far-snoc (take k xs) (get_or xs k no_item)
-
-  pub far_out : (xs : List Item) (k : ℕ) → k < length xs → n ≤ (get_or xs k no_item).to → length (far n (take (k + 1) xs)) ≡ length (far n (take k xs)) + 1
-  far_out xs k h l = far-next xs k h ∙ rw (le-ltb (get_or xs k no_item).to n l) (sym (add-one (length (far n (take k xs)))))
-
-  pub far_in : (xs : List Item) (k : ℕ) → k < length xs → (get_or xs k no_item).to < n → length (far n (take (k + 1) xs)) ≡ length (far n (take k xs))
-  far_in xs k h l = far-next xs k h ∙ rw (lt-ltb (get_or xs k no_item).to n l)
+  -- as `filter` keeps them
+  pub filter-far : (xs : List Item) → filter (λ (x : Item). leb n x.to) xs ≡ far n xs
+  filter-far [] = refl
+  filter-far (x ∷ xs) =
+      either-by (ltb x.to n) (λ c. filter (λ (y : Item). leb n y.to) (x ∷ xs) ≡ cond c (far n xs) (x ∷ far n xs))
+      (λ z. rw (lt-leb n x.to (ltb-true x.to n z)) (filter-far xs))
+      (λ z. rw (le-leb n x.to (ltb-false x.to n z), filter-far xs))
 
   pub far_le : (xs : List Item) → length (far n xs) ≤ length xs
   far_le [] = omega arith
@@ -140,28 +134,27 @@ module _ (n : ℕ) (ls : List (List Line)) (xs ys : List Item) (r : Item) (m : L
       (rw (owned-new n ys r hr, none_owned n n (omega arith) xs bx, none_owned n n (omega arith) ys by, get_or_at ls m [] [] n full))
 
 -- the line of one node more, the target t's
-module _ (ts : List LineItem) (names : List ℕ) (n t : ℕ) (h : n < length names) (l : t < 256) (a : Texted n ts) where
-  abbrev renamed : List ℕ
-  renamed = set names n (256 + t)
+module _ (ts : List LineItem) (names : List Name) (n t : ℕ) (h : n < length names) (a : Texted n ts) where
+  abbrev renamed : List Name
+  renamed = set names n (Invalid t)
 
   line-new : lines_at ts renamed n ≡ one (invalid t)
   line-new =
-      let e : get_or renamed n 0 ≡ 256 + t = get_or-set_same names n (256 + t) 0 h in
-      let back : 256 + t - 256 ≡ t = omega arith in
-      rw (e, texted-none n n (omega arith) ts a, ne_eqb (256 + t) 512 (λ z. omega arith), le-ltb (256 + t) 256 (omega arith)) (ap (λ (k : ℕ). one (invalid k)) back)
+      let e : get_or renamed n Nothing ≡ Invalid t = get_or-set_same names n (Invalid t) Nothing h in
+      rw (e, texted-none n n (omega arith) ts a)
 
   pub lines-one : tabulate (lines_at ts renamed) 0 (n + 1) ≡ tabulate (lines_at ts names) 0 n ++ one (one (invalid t))
   lines-one =
       let f = lines_at ts renamed in
-      let old : tabulate f 0 n ≡ tabulate (lines_at ts names) 0 n = tabulate-same f (lines_at ts names) 0 n (λ p i k. rw (get_or-set_other names n p (256 + t) 0 (omega arith))) in
+      let old : tabulate f 0 n ≡ tabulate (lines_at ts names) 0 n = tabulate-same f (lines_at ts names) 0 n (λ p i k. rw (get_or-set_other names n p (Invalid t) Nothing (omega arith))) in
       let new : f (0 + n) ≡ one (invalid t) = ap f (zero-add n) ∙ line-new in
       ap (tabulate f 0) (add-one n) ∙ tabulate-snoc f 0 n ∙ cc (old, new)
 
 -- ---- an end that leads to none of the first n nodes gets its box: t before it, r after it
-module _ (t r : Tables) (b : Standing t) (n p i k : ℕ) (hp : p < t.n) (room : t.n < 48) (long : length t.names ≡ 48) (to : ℕ) (byte : to < 256)
+module _ (t r : Tables) (b : Standing t) (n p i k : ℕ) (hp : p < t.n) (room : t.n < 48) (long : length t.names ≡ 48) (to : ℕ)
     (en : r.n ≡ t.n + 1)
     (el : r.lines ≡ t.lines)
-    (em : r.names ≡ set t.names t.n (256 + to)) where
+    (em : r.names ≡ set t.names t.n (Invalid to)) where
   abbrev xs : List Item
   xs = items_of t.sources
 
@@ -175,13 +168,13 @@ module _ (t r : Tables) (b : Standing t) (n p i k : ℕ) (hp : p < t.n) (room : 
   size = length-tabulate (lines_at (texts_of t.lines) t.names) 0 t.n
 
   lines : lines_of r ≡ lines_of t ++ one (one (invalid to))
-  lines = rw (en, em, el) (lines-one (texts_of t.lines) t.names t.n to (omega arith) byte b.owned.line_owners)
+  lines = rw (en, em, el) (lines-one (texts_of t.lines) t.names t.n to (omega arith) b.owned.line_owners)
 
   next-is : r.n ≡ suc t.n
   next-is = omega arith
 
-  blank : (m : ℕ) → r.n ≤ m → m < 48 → get_or r.names m 0 ≡ 512
-  blank m h l = rw em (get_or-set_other t.names t.n m (256 + to) 0 (omega arith) ∙ b.blank m (omega arith) l)
+  blank : (m : ℕ) → r.n ≤ m → m < 48 → get_or r.names m Nothing ≡ Nothing
+  blank m h l = rw em (get_or-set_other t.names t.n m (Invalid to) Nothing (omega arith) ∙ b.blank m (omega arith) l)
 
   held : some i ≡ mark_of (i + 1)
   held = rw add-one
@@ -284,7 +277,7 @@ module _ (t r : Tables) (b : Standing t) (n p i k : ℕ) (hp : p < t.n) (room : 
         }
 
 -- an end that leads to one of them stays
-pub end_kept : (side : Tables → Table) (step : Graph → ℕ → ℕ → Edge → Graph) (t : Tables) (p i k : ℕ) → Standing t → step (graph_of t) p i (edge_of (get_or (items_of (side t)) k no_item)) ≡ graph_of t → EndJoined side step t p i k t
+pub end_kept : (side : Tables → Items) (step : Graph → ℕ → ℕ → Edge → Graph) (t : Tables) (p i k : ℕ) → Standing t → step (graph_of t) p i (edge_of (get_or (items_of (side t)) k no_item)) ≡ graph_of t → EndJoined side step t p i k t
 end_kept side step t p i k b e =
     record {
       graph = sym e;
@@ -397,7 +390,7 @@ module _ (n : ℕ) where
       subst (λ (i : ℕ). Within (join_node n (each g (λ q u. join_node n u q) p) p) (each g (λ q u. join_node n u q) i)) z (each_within g (suc p) (n - suc p))
 
 -- ---- the loop over the ends of a node on one side
-module _ (side : Tables → Table) (step : Graph → ℕ → ℕ → Edge → Graph) (all : Graph → ℕ → ℕ → List Edge → Graph) where
+module _ (side : Tables → Items) (step : Graph → ℕ → ℕ → Edge → Graph) (all : Graph → ℕ → ℕ → List Edge → Graph) where
   -- Before record k, with i ends of p gone through: the records from k on are as given, and what is left to do gives the whole.
   pub record Going (t : Tables) (p : ℕ) (s : Tables) (i k : ℕ) : Type 0 where
     pub standing : Standing s
@@ -415,54 +408,48 @@ module _ (side : Tables → Table) (step : Graph → ℕ → ℕ → Edge → Gr
   going_first t p b = record { standing = b; cuts = refl; lines = refl; more = omega arith; within = omega arith; size = refl; ahead = refl; number = refl; less = omega arith; rest = refl }
 
   module _ (unrolled : (g : Graph) (p i : ℕ) (e : Edge) (es : List Edge) → all g p i (e ∷ es) ≡ all (step g p i e) p (suc i) es)
-      (t : Tables) (p : ℕ) (s : Tables) (long : length (side s).items ≡ 88) (room : (side s).count ≤ 88) (i k : ℕ) (l : Going t p s i k) where
+      (t : Tables) (p : ℕ) (s : Tables) (i k : ℕ) (l : Going t p s i k) where
     abbrev ts : List Item
     ts = items_of (side t)
 
     abbrev ss : List Item
     ss = items_of (side s)
 
-    long_is : length ts ≡ (side s).count
-    long_is = sym l.size ∙ table-size (side s) long room
+    pub going_end : length ts ≤ k → all (graph_of s) p i [] ≡ all (graph_of t) p 0 (owned p ts)
+    going_end h = rw (owned-end p k ts h) at l.rest
 
-    pub going_end : (side s).count ≤ k → all (graph_of s) p i [] ≡ all (graph_of t) p 0 (owned p ts)
-    going_end h = rw (owned-end p k ts (omega (arith, long_is))) at l.rest
-
-    module _ (h : k < (side s).count) where
-      in_given : k < length ts
-      in_given = omega (arith, long_is)
-
+    module _ (h : k < length ts) where
       in_list : k < length ss
-      in_list = omega (arith, in_given, l.size)
+      in_list = omega (arith, l.size)
 
-      here : get_or ss k no_item ≡ get_or (side s).items k no_item
-      here = table_at (side s) long room k h
+      pub going_at : get_or ss k no_item ≡ get_or (side s).items k no_item
+      going_at = get_or-take (side s).count (side s).items k no_item (omega (arith, in_list, length-take (side s).count (side s).items))
 
       still : get_or ss k no_item ≡ get_or ts k no_item
-      still = cc (l.ahead, drop-cons ss k no_item in_list, drop-cons ts k no_item in_given)
+      still = cc (l.ahead, drop-cons ss k no_item in_list, drop-cons ts k no_item h)
 
       further : drop (suc k) ss ≡ drop (suc k) ts
-      further = cc (l.ahead, drop-cons ss k no_item in_list, drop-cons ts k no_item in_given)
+      further = cc (l.ahead, drop-cons ss k no_item in_list, drop-cons ts k no_item h)
 
       pub going_other : ((get_or (side s).items k no_item).owner ≡ p → ⊥) → Going t p s i (k + 1)
       going_other o =
-          let o' : (get_or ss k no_item).owner ≡ p → ⊥ = λ z. o (rw here at z) in
+          let o' : (get_or ss k no_item).owner ≡ p → ⊥ = λ z. o (rw going_at at z) in
           record {
             standing = l.standing;
             cuts = l.cuts;
             lines = l.lines;
             more = l.more;
-            within = omega (arith, in_given);
+            within = omega arith;
             size = l.size;
             ahead = rw add-one further;
             number = counted-other ss p k in_list o' ∙ l.number;
             less = omega (arith, l.less);
-            rest = rw (add-one k, ← owned-other p k ts in_given (λ z. o' (rw still z))) l.rest;
+            rest = rw (add-one k, ← owned-other p k ts h (λ z. o' (rw still z))) l.rest;
           }
 
       module _ (o : (get_or (side s).items k no_item).owner ≡ p) where
         own : (get_or ss k no_item).owner ≡ p
-        own = rw here o
+        own = rw going_at o
 
         given_own : (get_or ts k no_item).owner ≡ p
         given_own = rw (← still) own
@@ -474,7 +461,7 @@ module _ (side : Tables → Table) (step : Graph → ℕ → ℕ → Edge → Gr
         unroll =
             ap (λ (x : Item). all (step (graph_of s) p i (edge_of x)) p (suc i) (owned p (drop (suc k) ts))) still
             ∙ sym (unrolled (graph_of s) p i (edge_of (get_or ts k no_item)) (owned p (drop (suc k) ts)))
-            ∙ (rw (owned-own p k ts in_given given_own) at l.rest)
+            ∙ (rw (owned-own p k ts h given_own) at l.rest)
 
         pub going_fits : ((es : List Edge) (g : Graph) (q j : ℕ) → Within g (all g q j es)) → Fits (all (graph_of t) p 0 (owned p ts)) → Fits (step (graph_of s) p i (edge_of (get_or ss k no_item)))
         going_fits w f = fits-within (w (owned p (drop (suc k) ts)) (step (graph_of s) p i (edge_of (get_or ss k no_item))) p (suc i)) (subst Fits (sym unroll) f)
@@ -491,7 +478,7 @@ module _ (side : Tables → Table) (step : Graph → ℕ → ℕ → Edge → Gr
               cuts = a.cuts ∙ l.cuts;
               lines = a.lines ∙ l.lines;
               more = omega (arith, a.more, l.more);
-              within = omega (arith, in_given);
+              within = omega arith;
               size = size ∙ l.size;
               ahead = rw (add-one k, a.items) (drop-set-lt (suc k) ss k y (omega arith) ∙ further);
               number =

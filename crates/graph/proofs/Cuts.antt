@@ -9,18 +9,20 @@ use mathlib.Core.Option.{Option, some}
 use mathlib.Core.Bool.{Bool, true, false, cond, ◌&&◌}
 use mathlib.Core.List.{List, [], ◌∷◌, ◌++◌, map, append-nil, append_assoc}
 use lib.Dec.{eqb}
-use lib.ListN.{length, get_or, set, take, drop, length-append, length-set, get_or-append}
+use lib.ListN.{length, get_or, set, take, drop, length-append, length-map, length-set, get_or-append}
 use lib.Seq.{get_or-set_same, get_or-set_other, set_split, split_at, take-suc, set_at, get_or_at, get_or-append-add}
-use borrow.Author.Tests.{eq-eqb, ne_eqb, eqb-true, lt-ltb}
+use borrow.Author.Tests.{eq-eqb, ne_eqb, eqb-true}
 use Rattle.laws.specs.Lists.{keep, one, tabulate}
 use Rattle.laws.proofs.Tests.{pick-through}
 use Rattle.laws.proofs.Lists.{length-tabulate, all_map, tabulate-set, tabulate-same, tabulate-snoc}
 use Rattle.chart.specs.declared.Line.{Line as LineItem}
 use Rattle.chart.specs.code.Filled.{lines_of as texts_of, owned_lines}
 use Rattle.graph.specs.declared.Item.{Item}
-use Rattle.graph.specs.declared.Table.{Table}
+use Rattle.graph.specs.Items.{Items}
+use Rattle.graph.specs.declared.Name.{Name}
+use Rattle.graph.specs.declared.Name.TheVariants.{Nothing, Number}
 use Rattle.graph.specs.declared.Tables.{Tables}
-use Rattle.graph.specs.Graph.{Edge, Node, Graph, Line, number, no_text, none?, node_at, with_sources, with_sinks}
+use Rattle.graph.specs.Graph.{Edge, Node, Graph, Line, number, no_text, node_at, with_sources, with_sinks}
 use Rattle.graph.specs.Cutting.{cut_graph, turned, pointed, second_node}
 use Rattle.graph.specs.code.Tables.{source_of, sink_of, owned, mark_of, edge_of, node_of, graph_from, Below, Aimed, Roomy, Sunk, CutTo, Linked, Texted, items_of, lines_at, lines_of, graph_of, point_item, turn_item}
 use Rattle.graph.specs.Outcome.{no_item}
@@ -264,7 +266,7 @@ pub owned_le : (c : ℕ) (xs : List Item) → length (owned c xs) ≤ length xs
 owned_le c [] = omega arith
 owned_le c (x ∷ xs) = keep_le (eqb x.owner c) (edge_of x) (owned c xs) (length xs) (owned_le c xs)
 
--- a store of f's value at place k, of a list that f has gone through up to k
+-- f's value in place k of a list that f has gone through up to k
 pub map-step : {A : Type 0} (f : A → A) (xs : List A) (k : ℕ) (d : A) → k < length xs →
     set (map f (take k xs) ++ drop k xs) k (f (get_or (map f (take k xs) ++ drop k xs) k d)) ≡ map f (take (suc k) xs) ++ drop (suc k) xs
 map-step f [] k d h = absurd (not-suc-le-zero h)
@@ -307,24 +309,24 @@ pub texted-more : (n m : ℕ) → n ≤ m → (ts : List LineItem) → Texted n 
 texted-more n m l ts a = all_map (λ x h. omega (arith, h)) ts a
 
 -- the lines of two nodes more, each the Debug text of q
-module _ (ts : List LineItem) (names : List ℕ) (n q : ℕ) (h : n + 2 ≤ length names) (l : q < 256) (a : Texted n ts) where
-  abbrev renamed : List ℕ
-  renamed = set (set names n q) (n + 1) q
+module _ (ts : List LineItem) (names : List Name) (n q : ℕ) (h : n + 2 ≤ length names) (a : Texted n ts) where
+  abbrev renamed : List Name
+  renamed = set (set names n (Number q)) (n + 1) (Number q)
 
   line-old : (p : ℕ) → p < n → lines_at ts renamed p ≡ lines_at ts names p
   line-old p i =
-      let e : get_or renamed p 0 ≡ get_or names p 0 = get_or-set_other (set names n q) (n + 1) p q 0 (omega arith) ∙ get_or-set_other names n p q 0 (omega arith) in
+      let e : get_or renamed p Nothing ≡ get_or names p Nothing = get_or-set_other (set names n (Number q)) (n + 1) p (Number q) Nothing (omega arith) ∙ get_or-set_other names n p (Number q) Nothing (omega arith) in
       rw e
 
-  line-new : (p : ℕ) → n ≤ p → get_or renamed p 0 ≡ q → lines_at ts renamed p ≡ one (number q)
-  line-new p i e = rw (e, texted-none n p i ts a, ne_eqb q 512 (λ z. omega arith), lt-ltb q 256 l)
+  line-new : (p : ℕ) → n ≤ p → get_or renamed p Nothing ≡ Number q → lines_at ts renamed p ≡ one (number q)
+  line-new p i e = rw (e, texted-none n p i ts a)
 
   pub lines_more : tabulate (lines_at ts renamed) 0 (n + 2) ≡ tabulate (lines_at ts names) 0 n ++ (one (number q) ∷ one (number q) ∷ [])
   lines_more =
       let f = lines_at ts renamed in
       let old : tabulate f 0 n ≡ tabulate (lines_at ts names) 0 n = tabulate-same f (lines_at ts names) 0 n (λ p i k. line-old p (omega arith)) in
-      let e : get_or renamed n 0 ≡ q = get_or-set_other (set names n q) (n + 1) n q 0 (omega arith) ∙ get_or-set_same names n q 0 (omega arith) in
-      let e' : get_or renamed (n + 1) 0 ≡ q = get_or-set_same (set names n q) (n + 1) q 0 (simp length-set (omega arith)) in
+      let e : get_or renamed n Nothing ≡ Number q = get_or-set_other (set names n (Number q)) (n + 1) n (Number q) Nothing (omega arith) ∙ get_or-set_same names n (Number q) Nothing (omega arith) in
+      let e' : get_or renamed (n + 1) Nothing ≡ Number q = get_or-set_same (set names n (Number q)) (n + 1) (Number q) Nothing (simp length-set (omega arith)) in
       let a : f (0 + n) ≡ one (number q) = ap f (zero-add n) ∙ line-new n (omega arith) e in
       let z : 0 + suc n ≡ n + 1 = omega arith in
       let b : f (0 + suc n) ≡ one (number q) = ap f z ∙ line-new (n + 1) (omega arith) e' in
@@ -340,10 +342,10 @@ module _ (t r : Tables) (b : Roomy t) (c s k : ℕ) (f : Sunk (items_of t.sinks)
     (long : length t.names ≡ 48)
     (en : r.n ≡ t.n + 2)
     (el : r.lines ≡ t.lines)
-    (em : r.names ≡ set (set t.names t.n (get_or (items_of t.sinks) k no_item).to) (t.n + 1) (get_or (items_of t.sinks) k no_item).to)
+    (em : r.names ≡ set (set t.names t.n (Number (get_or (items_of t.sinks) k no_item).to)) (t.n + 1) (Number (get_or (items_of t.sinks) k no_item).to))
     (ex : items_of r.sources ≡ map (turn_item (get_or (items_of t.sinks) k no_item).to c (suc t.n)) (items_of t.sources) ++ one (new_source t.n c s))
     (ey : items_of r.sinks ≡ set (items_of t.sinks) k (point_item t.n (get_or (items_of t.sinks) k no_item)) ++ one (new_sink t.n (get_or (items_of t.sinks) k no_item).to))
-    (cx : r.sources.count ≡ t.sources.count + 1) (cy : r.sinks.count ≡ t.sinks.count + 1) where
+    (cx : r.sources.count ≤ 88) (cy : r.sinks.count ≤ 88) where
   abbrev yk : Item
   yk = get_or (items_of t.sinks) k no_item
 
@@ -360,8 +362,8 @@ module _ (t r : Tables) (b : Roomy t) (c s k : ℕ) (f : Sunk (items_of t.sinks)
   cut-linked =
       record {
         nodes = omega arith;
-        source_room = omega (arith, b.source_room);
-        sink_room = omega (arith, b.sink_room);
+        source_room = cx;
+        sink_room = cy;
         source_owners = rw (ex, en) (below_one t.n (t.n + 2) xs₂ (new_source t.n c s) (omega arith) (omega arith) (below_turn yk.to c (suc t.n) t.n (items_of t.sources) b.linked.source_owners));
         sink_owners = rw (ey, en) (below_one t.n (t.n + 2) ys₂ (new_sink t.n yk.to) (omega arith) (omega arith) (below_set t.n (items_of t.sinks) k (point_item t.n yk) (omega (arith, f.owner)) b.linked.sink_owners));
         source_aims =
@@ -379,12 +381,12 @@ module _ (t r : Tables) (b : Roomy t) (c s k : ℕ) (f : Sunk (items_of t.sinks)
   cut-sound =
       record {
         linked = cut-linked;
-        source_room = omega (arith, b.source_room);
-        sink_room = omega (arith, b.sink_room);
+        source_room = rw ex (simp (length-append, length-map) (omega (arith, b.source_room)));
+        sink_room = rw ey (simp (length-append, length-set) (omega (arith, b.sink_room)));
         blank = λ m h l.
             rw em
-            (get_or-set_other (set t.names t.n yk.to) (t.n + 1) m yk.to 0 (omega arith)
-            ∙ get_or-set_other t.names t.n m yk.to 0 (omega arith)
+            (get_or-set_other (set t.names t.n (Number yk.to)) (t.n + 1) m (Number yk.to) Nothing (omega arith)
+            ∙ get_or-set_other t.names t.n m (Number yk.to) Nothing (omega arith)
             ∙ b.blank m (omega arith) l);
       }
 
@@ -393,43 +395,29 @@ module _ (t r : Tables) (b : Roomy t) (c s k : ℕ) (f : Sunk (items_of t.sinks)
       let q = yk.to in
       let size : length (lines_of t) ≡ t.n = length-tabulate (lines_at (texts_of t.lines) t.names) 0 t.n in
       let lines : lines_of r ≡ lines_of t ++ (one (number q) ∷ one (number q) ∷ []) =
-      rw (en, em, el) (lines_more (texts_of t.lines) t.names t.n q (omega arith) (omega (arith, to_in)) b.linked.line_owners) in
+      rw (en, em, el) (lines_more (texts_of t.lines) t.names t.n q (omega arith) b.linked.line_owners) in
       let two : r.n ≡ suc (suc t.n) = omega arith in
       rw (lines, ex, ey, two)
       (sym (cut-graph t.n (lines_of t) (items_of t.sources) (items_of t.sinks) c s k f size b.linked.source_owners b.linked.sink_owners hc to_in))
 
 -- the same as the code makes r: a and y are the tables turned and pointed, x and z those with a record more
 pub cut-to : (t : Tables) (b : Roomy t) (c s k : ℕ) (f : Sunk (items_of t.sinks) c s k) (hc : c < t.n) (room : t.n + 2 ≤ 48) (long : length t.names ≡ 48)
-    (q : Item) → get_or (items_of t.sinks) k no_item ≡ q → (x z : Table) →
-    (items_of x ≡ map (turn_item q.to c (t.n + 1)) (items_of t.sources) ++ one (source_of c s t.n)) × (x.count ≡ t.sources.count + 1) →
-    (items_of z ≡ set (items_of t.sinks) k (point_item t.n (get_or (items_of t.sinks) k no_item)) ++ one (sink_of q.to (t.n + 1))) × (z.count ≡ t.sinks.count + 1) →
-    CutTo t c s k (record { n = t.n + 2; cuts = t.cuts + 1; names = set (set t.names t.n q.to) (t.n + 1) q.to; lines = t.lines; sources = x; sinks = z })
+    (q : Item) → get_or (items_of t.sinks) k no_item ≡ q → (x z : Items) →
+    (items_of x ≡ map (turn_item q.to c (t.n + 1)) (items_of t.sources) ++ one (source_of c s t.n)) × (x.count ≤ 88) →
+    (items_of z ≡ set (items_of t.sinks) k (point_item t.n (get_or (items_of t.sinks) k no_item)) ++ one (sink_of q.to (t.n + 1))) × (z.count ≤ 88) →
+    CutTo t c s k (record { n = t.n + 2; cuts = t.cuts + 1; names = set (set t.names t.n (Number q.to)) (t.n + 1) (Number q.to); lines = t.lines; sources = x; sinks = z })
 cut-to t b c s k f hc room long q e x z hx hz =
-    let r : Tables = record { n = t.n + 2; cuts = t.cuts + 1; names = set (set t.names t.n q.to) (t.n + 1) q.to; lines = t.lines; sources = x; sinks = z } in
-    let em : r.names ≡ set (set t.names t.n (get_or (items_of t.sinks) k no_item).to) (t.n + 1) (get_or (items_of t.sinks) k no_item).to = rw e in
+    let r : Tables = record { n = t.n + 2; cuts = t.cuts + 1; names = set (set t.names t.n (Number q.to)) (t.n + 1) (Number q.to); lines = t.lines; sources = x; sinks = z } in
+    let em : r.names ≡ set (set t.names t.n (Number (get_or (items_of t.sinks) k no_item).to)) (t.n + 1) (Number (get_or (items_of t.sinks) k no_item).to) = rw e in
     let ex : items_of x ≡ map (turn_item (get_or (items_of t.sinks) k no_item).to c (suc t.n)) (items_of t.sources) ++ one (new_source t.n c s) =
     rw (e, ← add-one t.n) hx.0 in
     let ey : items_of z ≡ set (items_of t.sinks) k (point_item t.n (get_or (items_of t.sinks) k no_item)) ++ one (new_sink t.n (get_or (items_of t.sinks) k no_item).to) =
     hz.0 ∙ rw (e, add-one t.n) in
     record {
-      sound = cut-sound t r b c s k f hc room long refl refl em ex ey (omega arith) (omega arith);
+      sound = cut-sound t r b c s k f hc room long refl refl em ex ey hx.1 hz.1;
+      named = simp length-set long;
       more = refl;
       cuts = refl;
       lines = refl;
-      graph = cut-graphs t r b c s k f hc room long refl refl em ex ey (omega arith) (omega arith);
+      graph = cut-graphs t r b c s k f hc room long refl refl em ex ey hx.1 hz.1;
     }
-
--- whether c owns a record
-none_is : (es : List Edge) → length es ≤ 0 → true ≡ none? es
-none_is [] h = refl
-none_is (e ∷ es) h = absurd (not-suc-le-zero h)
-
-some_is : (es : List Edge) → 0 < length es → false ≡ none? es
-some_is [] h = absurd (not-suc-le-zero h)
-some_is (e ∷ es) h = refl
-
-pub none_of : (ys : List Item) (c : ℕ) → length (owned c ys) ≤ 0 → true ≡ none? (owned c ys)
-none_of ys c h = none_is (owned c ys) h
-
-pub some_of : (ys : List Item) (c k : ℕ) → Sunk ys c 0 k → false ≡ none? (owned c ys)
-some_of ys c k f = some_is (owned c ys) (sunk-less ys c 0 k f)

@@ -5,35 +5,35 @@ use native.Mathlib.Omega.{arith}
 use mathlib.Core.Path.{◌≡◌, refl, ap, sym, ◌∙◌, subst}
 use mathlib.Core.Bool.{Bool, true, false, cond}
 use mathlib.Core.Option.{Option, none, some}
-use mathlib.Core.Logic.{inl, inr}
-use mathlib.Core.List.{List, [], ◌∷◌, ◌++◌, map}
+use mathlib.Core.List.{List, [], ◌∷◌, map}
 use lib.Dec.{leb}
-use lib.ListN.{length, get_or, replicate, length-map, length-append}
+use lib.ListN.{length, get_or, length-map, length-append}
 use borrow.Author.Tests.{leb-true}
-use Rattle.laws.specs.Lists.{All, flat, padded}
-use Rattle.laws.proofs.Lists.{all_map, all_join, all-flat}
-use Rattle.chart.specs.declared.Answer.{Answer}
-use Rattle.chart.specs.declared.Answer.TheVariants.{Ready, Refused}
+use Rattle.laws.specs.Lists.{All, flat}
+use Rattle.laws.proofs.Lists.{all_map, all-flat}
+use Rattle.std.specs.Prelude.{Result, Ok}
+use Rattle.refusals.specs.Refusals.{numbers_in}
+use Rattle.refusals.specs.declared.Refusal.{Refusal}
+use Rattle.refusals.specs.declared.Refusal.TheVariants.{ManyBoxes}
 use Rattle.chart.specs.declared.Setting.{Setting}
 use Rattle.chart.specs.declared.Setting.TheVariants.{Strict}
 use Rattle.chart.specs.Chart.{Part, Board, Reading, ready as accepted, refusal as refused, chart}
-use Rattle.chart.specs.Read.{numbers_of}
 use Rattle.chart.specs.Accepted.{Accepted}
 use Rattle.chart.proofs.Accepts.{accepted as accepts}
 use Rattle.graph.specs.declared.Item.{Item}
+use Rattle.graph.specs.declared.Name.TheVariants.{Nothing}
 use Rattle.graph.specs.declared.Tables.{Tables}
-use Rattle.graph.specs.declared.Outcome.{Outcome}
 use Rattle.graph.specs.Graph.{Line, given, Edge, Node, Graph, bare, given_node, given_graph, node_at, degree}
 use Rattle.graph.specs.Completion.{complete}
 use Rattle.graph.specs.Joining.{leads_of, uncut}
 use Rattle.graph.specs.Cutting.{Walk, cutting}
 use Rattle.graph.specs.Graphed.{Dag, dag_of, ready, refusal, boxed, drawn, graphed}
 use Rattle.graph.specs.code.Tables.{items_of, Linked}
-use Rattle.graph.specs.Laws.{Aimed, Names, Marked, Unmarked, ends, Named, Laws, Walks}
+use Rattle.graph.specs.Laws.{Aimed, Names, Marked, Unmarked, ends, Laws, Walks}
 use Rattle.graph.specs.Completed.{CompletedLaws}
-use Rattle.graph.specs.Outcome.{held_mark, item_of, sources_from, sinks_from, texts_from, name_of, names_of, tables_of, outcome_of, IsGraph}
-use Rattle.graph.specs.code.Graphs.{Name, no_nodes, dag_in, graphed_of, Sound, Graphs, IsAnswer}
-use Rattle.graph.proofs.LineLaws.{lines_in, complete-lines, given_lines, completed-length}
+use Rattle.graph.specs.Outcome.{held_mark, item_of, sources_from, sinks_from, texts_from, name_of, tables_of, answer_of, IsGraph}
+use Rattle.graph.specs.code.Graphs.{dag_in, graphed_of, Sound, Graphs, IsAnswer}
+use Rattle.graph.proofs.LineLaws.{complete-lines, completed-length}
 use Rattle.graph.proofs.AimLaws.{cutting-aims, cutting-count}
 use Rattle.graph.proofs.MarkLaws.{cutting-marks}
 use Rattle.graph.proofs.MutualLaws.{complete_mutual}
@@ -42,12 +42,12 @@ use Rattle.graph.proofs.RoomLaws.{cutting-ends}
 use Rattle.graph.proofs.JoinLaws.{OffIn}
 use Rattle.graph.proofs.DepthLaws.{reached-enough, cutting-enough}
 use Rattle.graph.proofs.Orders.{table-back}
-use Rattle.graph.proofs.Uncut.{Plain, given-aimed, lines_at_lem, uncut-long, uncut-aims, uncut-marks, uncut-plain, uncut-none, uncut-sources, uncut-sinks, uncut-texts, uncut-offs_in, lines-off, uncut-boxes, uncut-own-sinks, uncut-own-sources, offs, cut-kept, cut_lined, cut-rest, cut-plain, lines-kept, lines_new, lines-halves}
+use Rattle.graph.proofs.Uncut.{Plain, given-aimed, lines_at_lem, uncut-long, uncut-aims, uncut-marks, uncut-plain, uncut-none, uncut-sources, uncut-sinks, uncut-texts, lines-off, uncut-boxes, uncut-own-sinks, uncut-own-sources, cut-kept, cut-plain, lines-kept, lines_new, lines-halves}
 use Rattle.graph.proofs.NoLeads.{none-aimed}
 use Rattle.graph.proofs.Begins.{cut-lines, few-lines}
 
 -- ---- the laws of the graph of an accepted board
-boxed-ready : (w : Walk) (d : Dag) → (b : Bool) → leb (length w.graph) 48 ≡ b → cond b (ready (dag_of w)) (refusal 13 0) ≡ ready d → (d ≡ dag_of w) × (length w.graph ≤ 48)
+boxed-ready : (w : Walk) (d : Dag) → (b : Bool) → leb (length w.graph) 48 ≡ b → cond b (ready (dag_of w)) (refusal ManyBoxes) ≡ ready d → (d ≡ dag_of w) × (length w.graph ≤ 48)
 boxed-ready w d true t e = (cc, leb-true (length w.graph) 48 t)
 boxed-ready w d false t e = let z : ◌≡◌ {A = ℕ} 0 1 = cc in absurd (omega arith)
 
@@ -133,7 +133,7 @@ board-walks ps = record { roots = reached-enough (uncut ps); starts = cutting-en
 
 pub laws-drawn : (w : Setting) (s : List ℕ) (d : Dag) → (c : Reading) → chart w s ≡ c → drawn c ≡ ready d → Laws w s d
 laws-drawn w s d (accepted ps) r e = board-laws w s ps r d e
-laws-drawn w s d (refused a b) r e = let z : ◌≡◌ {A = ℕ} 0 1 = cc in absurd (omega arith)
+laws-drawn w s d (refused why) r e = let z : ◌≡◌ {A = ℕ} 0 1 = cc in absurd (omega arith)
 
 -- the laws of every graph that is drawn
 pub graph-laws : (w : Setting) (s : List ℕ) (d : Dag) → graphed w s ≡ ready d → Laws w s d
@@ -166,28 +166,9 @@ low-mark g p h e n = go e.mark refl
     go none z = omega arith
     go (some i) z = omega (arith, (n i z).inside, degree_le g e.to)
 
-all-padded : {A : Type 0} (P : A → Type 0) (m : ℕ) (z : A) (xs : List A) → P z → All P xs → All P (padded m z xs)
-all-padded P zero z xs h a = tt
-all-padded P (suc m) z [] h a = (h, all-padded P m z [] h tt)
-all-padded P (suc m) z (x ∷ xs) h a = (a.0, all-padded P m z xs h a.1)
-
-pub given_name : (ts : List Part) → name_of (map given ts) ≡ 512
+pub given_name : (ts : List Part) → name_of (map given ts) ≡ Nothing
 given_name [] = refl
 given_name (t ∷ ts) = given_name ts
-
-given-names : (ps : Board) → All (λ (l : List Line). Name (name_of l)) (given_lines ps)
-given-names [] = tt
-given-names (p ∷ ps) = (λ o. absurd (o (given_name p.lines)), given-names ps)
-
-off_name : (n : ℕ) (l : List Line) → OffIn n 256 l → Name (name_of l)
-off_name n l o z = inr (rw o.line (omega (arith, o.given, o.past), omega (arith, o.small)))
-
-number_name : (n : ℕ) → n ≤ 32 → (l : List Line) → Named n l → Name (name_of l)
-number_name n h l o z = inl (rw o.line (omega (arith, o.inside)))
-
-all-names : (ls : List (List Line)) → All (λ (l : List Line). Name (name_of l)) ls → All Name (map name_of ls)
-all-names [] a = tt
-all-names (l ∷ ls) a = (a.0, all-names ls a.1)
 
 -- the chart is made of bytes
 abbrev pub Bytes : List ℕ → Type 0
@@ -203,11 +184,7 @@ box-byte w s b d l k h i =
     let ps : Board = l.board in
     rw (l.kept k h i) (lines-off ps 256 (omega (arith, (accepts w s ps l.read).nodes)) (given-bytes w s b ps l.read) k h i)
 
-map-names : (g : Graph) → names_of g ≡ map name_of (lines_in g)
-map-names [] = refl
-map-names (x ∷ g) = cc (map-names g)
-
-module _ (w : Setting) (s : List ℕ) (bytes : Bytes s) (t : Tables) (b : Linked t) (e : t ≡ tables_of (dag_in t)) where
+module _ (w : Setting) (s : List ℕ) (t : Tables) (b : Linked t) (e : t ≡ tables_of (dag_in t)) where
   abbrev d : Dag
   d = dag_in t
 
@@ -229,22 +206,6 @@ module _ (w : Setting) (s : List ℕ) (bytes : Bytes s) (t : Tables) (b : Linked
         let z : length (texts_from 0 u) ≡ length (texts_from 0 (cutting (uncut l.board)).graph) = ap (λ (c : Dag). length (texts_from 0 c.graph)) l.walk in
         omega (arith, ap (λ (y : Tables). y.lines.count) e, z, few-lines w s l.board l.read _ (cut-lines l.board))
 
-    names : All Name t.names
-    names =
-        let ps : Board = l.board in
-        let a : Accepted w s ps = accepts w s ps l.read in
-        let g : Graph = (cutting (uncut ps)).graph in
-        let us : List (List Line) = given_lines ps in
-        let z : names_of u ≡ map name_of (us ++ (offs ps ++ (cut_lined ps).rest)) = ap (λ (c : Dag). names_of c.graph) l.walk ∙ map-names g ∙ ap (map name_of) (cut-rest ps) in
-        let P : List Line → Type 0 = λ m. Name (name_of m) in
-        let all : All P (us ++ (offs ps ++ (cut_lined ps).rest)) =
-        all_join P us (offs ps ++ (cut_lined ps).rest) (given-names ps)
-        (all_join P (offs ps) (cut_lined ps).rest
-        (all_map (off_name (length ps)) (offs ps) (uncut-offs_in ps 256 (omega (arith, a.nodes)) (given-bytes w s bytes ps l.read)))
-        (all_map (number_name (length ps) a.nodes) (cut_lined ps).rest (cut_lined ps).named)) in
-        rw (ap (λ (y : Tables). y.names) e)
-        (all-padded Name 48 512 (names_of u) (λ o. absurd (o refl)) (rw z (all-names (us ++ (offs ps ++ (cut_lined ps).rest)) all)))
-
     pub tables-sound : Sound t
     tables-sound =
         record {
@@ -252,45 +213,32 @@ module _ (w : Setting) (s : List ℕ) (bytes : Bytes s) (t : Tables) (b : Linked
           line_room = few;
           source_marks = rw items-are (all-flat item_of (λ (x : Node). x.sources) (length u) Low (λ (x : Item). x.mark ≤ 88) (λ p y h k. k) 0 u (omega arith) lows);
           sink_marks = rw sinks-are (all-flat item_of (λ (x : Node). x.sinks) (length u) Plain (λ (x : Item). x.mark ≡ 0) (λ p y h k. ap held_mark k) 0 u (omega arith) l.unmarked);
-          names = names;
         }
 
 -- ---- the contract of `graph`
-all_repeat : {A : Type 0} (P : A → Type 0) (n : ℕ) (x : A) → P x → All P (replicate n x)
-all_repeat P zero x h = tt
-all_repeat P (suc n) x h = (h, all_repeat P n x h)
+module _ (w : Setting) (s : List ℕ) (r : Result Tables Refusal) (a : IsAnswer (graphed w s) r) where
+  module _ (t : Tables) (e : r ≡ Ok t) where
+    drawn-is : graphed w s ≡ ready (dag_in t)
+    drawn-is = sym a.graphs ∙ ap graphed_of e
 
-module _ (w : Setting) (s : List ℕ) (bytes : Bytes s) (r : Outcome) (a : IsAnswer (graphed w s) r) where
-  drawn-is : r.answer ≡ Ready → graphed w s ≡ ready (dag_in r.graph)
-  drawn-is e = sym a.graphs ∙ ap (λ x. graphed_of (record { answer = x; graph = r.graph })) e
+    tables-are : t ≡ tables_of (dag_in t)
+    tables-are = let z : Ok t ≡ answer_of (ready (dag_in t)) = sym e ∙ a.whole ∙ ap answer_of drawn-is in cc
 
-  tables-are : r.answer ≡ Ready → r.graph ≡ tables_of (dag_in r.graph)
-  tables-are e = ap (λ (o : Outcome). o.graph) (a.whole ∙ ap outcome_of (drawn-is e))
+    laws-of : Laws w s (dag_in t)
+    laws-of = graph-laws w s (dag_in t) drawn-is
 
-  laws-of : r.answer ≡ Ready → Laws w s (dag_in r.graph)
-  laws-of e = graph-laws w s (dag_in r.graph) (drawn-is e)
-
-  sound-by : (x : Answer) → r.answer ≡ x → Sound r.graph
-  sound-by Ready e = tables-sound w s bytes r.graph a.linked (tables-are e) (laws-of e)
-  sound-by (Refused i j) e =
-      let z : graphed w s ≡ refusal i j = sym a.graphs ∙ ap (λ x. graphed_of (record { answer = x; graph = r.graph })) e in
-      let y : r.graph ≡ no_nodes = ap (λ (o : Outcome). o.graph) (a.whole ∙ ap outcome_of z) in
-      record {
-        linked = a.linked;
-        line_room = rw y (omega arith);
-        source_marks = rw y tt;
-        sink_marks = rw y tt;
-        names = rw y (all_repeat Name 48 512 (λ o. absurd (o refl)));
-      }
+    sound-by : Sound t
+    sound-by = tables-sound w s t (a.linked t e) tables-are laws-of
 
   pub is-graphs : Graphs w s r
-  is-graphs = record { graphs = a.graphs; whole = a.whole; sound = sound-by r.answer refl; laws = laws-of }
+  is-graphs = record { graphs = a.graphs; whole = a.whole; sound = sound-by; laws = laws-of }
 
-  pub is-graph : IsGraph w s r
-  is-graph =
+  pub is-graph : Bytes s → IsGraph w s r
+  is-graph bytes =
       record {
         whole = a.whole;
-        refused = λ i j e. ap (λ (o : Outcome). numbers_of o.answer) (a.whole ∙ ap outcome_of e);
+        refused = λ why e. a.whole ∙ ap answer_of e;
+        numbers = λ why e. ap numbers_in (a.whole ∙ ap answer_of e);
         laws = graph-laws w s;
         walks = λ ps e. board-walks ps;
         bytes = bytes;

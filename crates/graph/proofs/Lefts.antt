@@ -5,27 +5,26 @@ use native.Mathlib.Omega.{arith}
 use native.Mathlib.Numerals.{add-one}
 use mathlib.Core.Path.{◌≡◌, refl, ap, sym, ◌∙◌, subst}
 use mathlib.Core.Bool.{Bool, true, false, cond}
-use mathlib.Core.List.{List, ◌∷◌, ◌++◌}
+use mathlib.Core.List.{List, ◌++◌}
 use lib.Dec.{ltb}
 use lib.ListN.{length, get_or, take, drop}
 use lib.Seq.{get_or-take, length-take-le}
 use borrow.Author.Tests.{ltb-true, ltb-false}
 use Rattle.laws.specs.Lists.{one}
 use Rattle.graph.specs.declared.Item.{Item}
-use Rattle.graph.specs.declared.Table.{Table}
+use Rattle.graph.specs.Items.{Items}
 use Rattle.graph.specs.declared.Tables.{Tables}
 use Rattle.graph.specs.Graph.{Edge, Graph, has_marked, leads_to}
 use Rattle.graph.specs.Completion.{gain_source, complete_sinks}
-use Rattle.graph.specs.code.Tables.{owned, edge_of, source_of, gained, gained_in, graph_from, graph_of, lines_of, items_of, Below, Sinked, Paired, bares, Fit, SinksDone}
+use Rattle.graph.specs.code.Tables.{owned, source_of, gained, gained_in, graph_from, graph_of, lines_of, items_of, Below, Sinked, Paired, bares, Fit, SinksDone}
 use Rattle.graph.specs.Outcome.{no_item}
-use Rattle.graph.proofs.Lists.{node-graph, owned-end, owned-other, owned-own, table-size, table_at}
+use Rattle.graph.proofs.Lists.{node-graph, owned-end, owned-other, owned-own, table_le}
 use Rattle.graph.proofs.Gains.{gain-graph}
 use Rattle.graph.proofs.Cuts.{length-graph, below_one, counted-own, counted-other}
 use Rattle.graph.proofs.Pairs.{leads-at, source_sinked, source_paired, source_bares}
 
 -- Before record k, with i sinks of p gone through and the table s of sources: what is left to do gives the whole.
-pub record Left (g : ℕ) (t : Tables) (p : ℕ) (s : Table) (i k : ℕ) : Type 0 where
-  pub within : k ≤ t.sinks.count
+pub record Left (g : ℕ) (t : Tables) (p : ℕ) (s : Items) (i k : ℕ) : Type 0 where
   pub numbered : i ≤ k
   pub number : length (owned p (take k (items_of t.sinks))) ≡ i
   pub room : s.count + length (owned p (drop k (take g (items_of t.sinks)))) ≤ t.sources.count + length (owned p (take g (items_of t.sinks)))
@@ -66,19 +65,19 @@ module _ (g p k : ℕ) (ys : List Item) (hg : g ≤ length ys) where
   rest_more a b h f o true e = omega (arith, h, rest-own (ltb-true k g e) o)
   rest_more a b h f o false e = omega (arith, rest-none (ltb-false k g e), f (ltb-false k g e))
 
-module _ (g : ℕ) (t : Tables) (b : Fit g t) (long : length t.sinks.items ≡ 88) (p : ℕ) (hp : p < t.n) (s : Table) (i k : ℕ) (l : Left g t p s i k) where
+module _ (g : ℕ) (t : Tables) (b : Fit g t) (p : ℕ) (hp : p < t.n) (s : Items) (i k : ℕ) (l : Left g t p s i k) where
   abbrev ys : List Item
   ys = items_of t.sinks
 
   abbrev done : Tables
   done = record { n = t.n; cuts = t.cuts; names = t.names; lines = t.lines; sources = s; sinks = t.sinks }
 
-  pub left_end : t.sources.count + length (owned p (take g ys)) ≤ 64 → t.sinks.count ≤ k → SinksDone g t p done
+  pub left_end : t.sources.count + length (owned p (take g ys)) ≤ 64 → length ys ≤ k → SinksDone g t p done
   left_end room h =
       record {
         graph =
             rw (node-graph t.n (lines_of t) (items_of t.sources) ys p hp)
-            (rw (owned-end p k ys (omega (arith, table-size t.sinks long b.linked.sink_room))) at l.rest);
+            (rw (owned-end p k ys h) at l.rest);
         fit =
             record {
               linked =
@@ -100,64 +99,54 @@ module _ (g : ℕ) (t : Tables) (b : Fit g t) (long : length t.sinks.items ≡ 8
         count = omega (arith, l.room);
       }
 
-  module _ (h : k < t.sinks.count) where
+  module _ (h : k < length ys) where
     abbrev e : Item
-    e = get_or t.sinks.items k no_item
+    e = get_or ys k no_item
 
-    inside : k < length ys
-    inside = omega (arith, table-size t.sinks long b.linked.sink_room)
-
-    here : get_or ys k no_item ≡ e
-    here = table_at t.sinks long b.linked.sink_room k h
+    -- the sinks gone through are less than 88
+    pub left_few : i < 88
+    left_few = omega (arith, l.numbered, table_le t.sinks, b.linked.sink_room)
 
     pub left_other : (e.owner ≡ p → ⊥) → Left g t p s i (k + 1)
     left_other o =
-        let o' : (get_or ys k no_item).owner ≡ p → ⊥ = λ q. o (rw here at q) in
         record {
-          within = omega arith;
           numbered = omega (arith, l.numbered);
-          number = counted-other ys p k inside o' ∙ l.number;
-          room = rw (add-one k) (omega (arith, l.room, rest-other g p k ys b.given o' (ltb k g) refl));
+          number = counted-other ys p k h o ∙ l.number;
+          room = rw (add-one k) (omega (arith, l.room, rest-other g p k ys b.given o (ltb k g) refl));
           owners = l.owners;
           sinked = l.sinked;
           paired = l.paired;
           same = l.same;
-          rest = rw (add-one k, ← owned-other p k ys inside o') l.rest;
+          rest = rw (add-one k, ← owned-other p k ys h o) l.rest;
         }
 
     module _ (o : e.owner ≡ p) where
-      own : (get_or ys k no_item).owner ≡ p
-      own = rw here o
-
       hit : g ≤ k → has_marked (owned e.to (items_of s)) p i ≡ true
       hit a =
-          let y = get_or ys k no_item in
-          subst (λ (x : Item). has_marked (owned x.to (items_of s)) p i ≡ true) here
-          (subst (λ (n : ℕ). has_marked (owned y.to (items_of s)) p n ≡ true) l.number
-          (subst (λ (n : ℕ). has_marked (owned y.to (items_of s)) n (length (owned n (take k ys))) ≡ true) own (l.paired k a inside)))
+          subst (λ (n : ℕ). has_marked (owned e.to (items_of s)) p n ≡ true) l.number
+          (subst (λ (n : ℕ). has_marked (owned e.to (items_of s)) n (length (owned n (take k ys))) ≡ true) o (l.paired k a h))
 
       leads : leads_to (owned p ys) e.to ≡ true
-      leads = leads-at ys k p e.to inside own (ap (λ (x : Item). x.to) here)
+      leads = leads-at ys k p e.to h o refl
 
       abbrev now : Graph
       now = graph_from t.n (lines_of t) (items_of s) ys
 
       rest-now : complete_sinks (cond (ltb e.to (length now)) (gain_source now p i e.to) now) p (suc i) (owned p (drop (suc k) ys)) ≡ complete_sinks (graph_of t) p 0 (owned p ys)
-      rest-now = let own' : owned p (drop k ys) ≡ edge_of e ∷ owned p (drop (suc k) ys) = rw (owned-own p k ys inside own, here) in rw own' at l.rest
+      rest-now = rw (owned-own p k ys h o) at l.rest
 
       test_now : (c : Bool) → ltb e.to t.n ≡ c → ltb e.to (length now) ≡ c
       test_now c z = ap (ltb e.to) (length-graph t.n (lines_of t) (items_of s) ys) ∙ z
 
-      left_by : (r : Table) → (d : Bool) → ltb e.to t.n ≡ d → items_of r ≡ cond d (gained (items_of s) p i e.to) (items_of s) → r.count ≤ s.count + 1 →
+      left_by : (r : Items) → (d : Bool) → ltb e.to t.n ≡ d → items_of r ≡ cond d (gained (items_of s) p i e.to) (items_of s) → r.count ≤ s.count + 1 →
           (has_marked (owned e.to (items_of s)) p i ≡ true → r.count ≡ s.count) → Left g t p r (i + 1) (k + 1)
       left_by r true z f c c' =
           let to_in : e.to < t.n = ltb-true e.to t.n z in
           let m : Bool = has_marked (owned e.to (items_of s)) p i in
           record {
-            within = omega arith;
             numbered = omega (arith, l.numbered);
-            number = counted-own ys p k inside own ∙ ap (λ (n : ℕ). n + 1) l.number;
-            room = rw (add-one k) (omega (arith, l.room, rest_more g p k ys b.given s.count r.count c (λ a. c' (hit a)) own (ltb k g) refl));
+            number = counted-own ys p k h o ∙ ap (λ (n : ℕ). n + 1) l.number;
+            room = rw (add-one k) (omega (arith, l.room, rest_more g p k ys b.given s.count r.count c (λ a. c' (hit a)) o (ltb k g) refl));
             owners = rw f (below-cond t.n (items_of s) (source_of p i e.to) to_in l.owners m);
             sinked = rw f (source_sinked g ys (items_of s) p i e.to leads m l.sinked);
             paired = rw f (source_paired g ys (items_of s) p i e.to leads m l.paired);
@@ -168,10 +157,9 @@ module _ (g : ℕ) (t : Tables) (b : Fit g t) (long : length t.sinks.items ≡ 8
           }
       left_by r false z f c c' =
           record {
-            within = omega arith;
             numbered = omega (arith, l.numbered);
-            number = counted-own ys p k inside own ∙ ap (λ (n : ℕ). n + 1) l.number;
-            room = rw (add-one k) (omega (arith, l.room, rest_more g p k ys b.given s.count r.count c (λ a. c' (hit a)) own (ltb k g) refl));
+            number = counted-own ys p k h o ∙ ap (λ (n : ℕ). n + 1) l.number;
+            room = rw (add-one k) (omega (arith, l.room, rest_more g p k ys b.given s.count r.count c (λ a. c' (hit a)) o (ltb k g) refl));
             owners = rw f l.owners;
             sinked = rw f l.sinked;
             paired = rw f l.paired;
@@ -179,5 +167,5 @@ module _ (g : ℕ) (t : Tables) (b : Fit g t) (long : length t.sinks.items ≡ 8
             rest = rw (add-one k, add-one i, f) (rw (test_now false z) at rest-now);
           }
 
-      pub left-own : (r : Table) → items_of r ≡ gained_in t.n (items_of s) p i e.to → r.count ≤ s.count + 1 → (has_marked (owned e.to (items_of s)) p i ≡ true → r.count ≡ s.count) → Left g t p r (i + 1) (k + 1)
+      pub left-own : (r : Items) → items_of r ≡ gained_in t.n (items_of s) p i e.to → r.count ≤ s.count + 1 → (has_marked (owned e.to (items_of s)) p i ≡ true → r.count ≡ s.count) → Left g t p r (i + 1) (k + 1)
       left-own r f c c' = left_by r (ltb e.to t.n) refl f c c'

@@ -33,4 +33,5 @@ pub mod EndsLaws
 pub mod Tabled
 pub mod Empty
 pub mod Stages
+pub mod Stands
 pub mod Settings

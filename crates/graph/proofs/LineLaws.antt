@@ -16,9 +16,10 @@ use Rattle.laws.proofs.Lists.{all_map, all_join}
 use Rattle.laws.proofs.Tests.{pick}
 use Rattle.chart.specs.Chart.{Board}
 use Rattle.chart.specs.Chart.{Node as GivenNode}
+use Rattle.graph.specs.declared.reach.Seen.TheVariants.{Unseen}
 use Rattle.graph.specs.Graph.{Line, given, number, Edge, Node, Graph, no_text, no_edge, bare, given_node, given_graph, node_at, degree, leads_to, has_marked, with_sources, with_sinks}
 use Rattle.graph.specs.Completion.{gain_source, marked, gain_sink, complete}
-use Rattle.graph.specs.Cutting.{Walk, turned, pointed, first_node, second_node, cut_graph, cut, unseen, seen_at, reached, cutting}
+use Rattle.graph.specs.Cutting.{Walk, turned, pointed, first_node, second_node, cut_graph, cut, seen_at, reached, cutting}
 use Rattle.graph.specs.Laws.{Named}
 use Rattle.graph.proofs.Resumes.{Grown, cut-grown, length_cut}
 use Rattle.graph.proofs.Keeps.{steps_keep, root_seen, cutting_keeps}
@@ -169,7 +170,7 @@ cutting-kept n g lo cl idle =
     (λ k l i. kept-cut n w.graph c s (get_or (node_at w.graph c).sinks s no_edge) k c-in q-in l (omega arith) ∙ h.0 k l i, closed-cut n w c s (omega arith) hs bz h.1))
     g refl refl (λ k l i. refl, cl)).keeps.0
   where
-    given_in : (w : Walk) (c s : ℕ) → c < length g → s < degree w.graph c → seen_at (reached g) c ≡ unseen → ((k : ℕ) → n ≤ k → k < length g → node_at w.graph k ≡ node_at g k) → (b : Bool) → ltb c n ≡ b → c < n
+    given_in : (w : Walk) (c s : ℕ) → c < length g → s < degree w.graph c → seen_at (reached g) c ≡ Unseen → ((k : ℕ) → n ≤ k → k < length g → node_at w.graph k ≡ node_at g k) → (b : Bool) → ltb c n ≡ b → c < n
     given_in w c s hc hs fr f true z = ltb-true c n z
     given_in w c s hc hs fr f false z =
         let l : n ≤ c = ltb-false c n z in

@@ -17,6 +17,7 @@ use Rattle.graph.specs.Graph.{Edge, Graph, node_at, leads_to, has_marked, given_
 use Rattle.graph.specs.Completion.{gain_source, complete_sinks, gain_sink, complete_sources, complete_node, complete}
 use Rattle.graph.specs.Cutting.{cutting}
 use Rattle.graph.specs.Joining.{outside, leads, leads_of, uncut}
+use Rattle.refusals.specs.declared.Refusal.TheVariants.{ManyBoxes}
 use Rattle.graph.specs.Graphed.{dag_of, ready, refusal, boxed}
 use Rattle.graph.specs.Laws.{Aimed, SinkAt}
 use Rattle.graph.proofs.Completes.{SourceAt, sinks_hold, sources_hold}
@@ -122,12 +123,12 @@ module _ (ps : Board) where
   pub boxes-are : length (cutting (uncut ps)).graph ≡ boxes
   boxes-are = omega (arith, cutting-count (uncut ps), uncut-long ps)
 
-  pub thirteen : 48 < boxes → boxed (cutting (uncut ps)) ≡ refusal 13 0
+  pub thirteen : 48 < boxes → boxed (cutting (uncut ps)) ≡ refusal ManyBoxes
   thirteen h = rw (lt-leb (length (cutting (uncut ps)).graph) 48 (omega (arith, boxes-are)))
 
   pub not_thirteen : boxes ≤ 48 → boxed (cutting (uncut ps)) ≡ ready (dag_of (cutting (uncut ps)))
   not_thirteen h = rw (le-leb (length (cutting (uncut ps)).graph) 48 (omega (arith, boxes-are)))
 
   -- 'given too if they alone bring the boxes over 48'
-  pub leads-alone : 48 < length ps + leads_of ps → boxed (cutting (uncut ps)) ≡ refusal 13 0
+  pub leads-alone : 48 < length ps + leads_of ps → boxed (cutting (uncut ps)) ≡ refusal ManyBoxes
   leads-alone h = thirteen (omega arith)

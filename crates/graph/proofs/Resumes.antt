@@ -6,13 +6,14 @@ use native.Mathlib.Nat.{sub-zero}
 use mathlib.Core.Path.{◌≡◌, refl, ap, sym, ◌∙◌}
 use mathlib.Core.Bool.{Bool, true, false, cond}
 use mathlib.Core.List.{List, [], ◌∷◌, ◌++◌}
-use lib.Dec.{eqb}
 use lib.ListN.{length, get_or, set, length-set, length-append, get_or-append}
-use borrow.Author.Tests.{eq-eqb, ne_eqb}
 use Rattle.graph.specs.declared.cutting.Look.{Look}
+use Rattle.graph.specs.declared.reach.Seen.{Seen}
+use Rattle.graph.specs.declared.reach.Seen.TheVariants.{OnPath, Explored}
 use Rattle.graph.specs.Graph.{Edge, Node, Graph, no_edge, bare, node_at, degree}
-use Rattle.graph.specs.Cutting.{Walk, cut, cut_graph, look, explore_from, explore_sinks, seeing, seen_at, unseen, on_path, explored}
+use Rattle.graph.specs.Cutting.{Walk, cut, cut_graph, look, explore_from, explore_sinks, seeing, seen_at, unseen?, on_path?}
 use Rattle.graph.specs.code.Explore.{rest, resume}
+use Rattle.graph.proofs.Stands.{seen-on_path}
 
 -- what no step of the walk undoes: the graph does not shrink, and a node keeps the number of its sinks
 pub record Grown (g h : Graph) : Type 0 where
@@ -63,7 +64,7 @@ pub look-grown : (go : Go) → Grows go → (w : Walk) (c s : ℕ) → Grown w.g
 look-grown go h w c s =
     let e = get_or (node_at w.graph c).sinks s no_edge in
     let x = seen_at w.seen e.to in
-    pick-grown w.graph (eqb x unseen) (eqb x on_path) (go w e.to) (cut w c s e) w (h w e.to) (cut-grown w c s e) (grown_refl w.graph)
+    pick-grown w.graph (unseen? x) (on_path? x) (go w e.to) (cut w c s e) w (h w e.to) (cut-grown w c s e) (grown_refl w.graph)
 
 pub sinks-grown : (go : Go) → Grows go → (w : Walk) (c s k : ℕ) → Grown w.graph (explore_sinks go w c s k).graph
 sinks-grown go h w c s zero = grown_refl w.graph
@@ -71,25 +72,25 @@ sinks-grown go h w c s (suc k) = grown_trans (look-grown go h w c s) (sinks-grow
 
 pub from-grown : (d : ℕ) → Grows (explore_from d)
 from-grown zero w c = grown_refl w.graph
-from-grown (suc d) w c = sinks-grown (λ u q. explore_from d u q) (from-grown d) (seeing w c on_path) c 0 (degree w.graph c)
+from-grown (suc d) w c = sinks-grown (λ u q. explore_from d u q) (from-grown d) (seeing w c OnPath) c 0 (degree w.graph c)
 
 pub resume-grown : (d : ℕ) (w : Walk) (fs : List Look) → Grown w.graph (resume d w fs).graph
 unfolding resume
 resume-grown d w [] = grown_refl w.graph
 resume-grown d w (f ∷ fs) =
     grown_trans (sinks-grown (λ u q. explore_from d u q) (from-grown d) w f.node f.sink (rest w f))
-    (resume-grown (suc d) (seeing (explore_sinks (λ u q. explore_from d u q) w f.node f.sink (rest w f)) f.node explored) fs)
+    (resume-grown (suc d) (seeing (explore_sinks (λ u q. explore_from d u q) w f.node f.sink (rest w f)) f.node Explored) fs)
 
 -- the last frame has no sink left
-pub resume-leave : (d : ℕ) (w : Walk) (f : Look) (fs : List Look) → degree w.graph f.node ≤ f.sink → resume d w (f ∷ fs) ≡ resume (suc d) (seeing w f.node explored) fs
+pub resume-leave : (d : ℕ) (w : Walk) (f : Look) (fs : List Look) → degree w.graph f.node ≤ f.sink → resume d w (f ∷ fs) ≡ resume (suc d) (seeing w f.node Explored) fs
 unfolding resume
 resume-leave d w f fs h = let e : rest w f ≡ 0 = omega arith in rw e
 
 -- the walk from a node that was unseen begins
-pub resume-enter : (d : ℕ) (w : Walk) (q : ℕ) (fs : List Look) → resume (suc d) (explore_from (suc d) w q) fs ≡ resume d (seeing w q on_path) (record { node = q; sink = 0 } ∷ fs)
+pub resume-enter : (d : ℕ) (w : Walk) (q : ℕ) (fs : List Look) → resume (suc d) (explore_from (suc d) w q) fs ≡ resume d (seeing w q OnPath) (record { node = q; sink = 0 } ∷ fs)
 unfolding resume
 resume-enter d w q fs =
-    ap (λ (k : ℕ). resume (suc d) (seeing (explore_sinks (explore_from d) (seeing w q on_path) q 0 k) q explored) fs) (sym (sub-zero (degree w.graph q)))
+    ap (λ (k : ℕ). resume (suc d) (seeing (explore_sinks (explore_from d) (seeing w q OnPath) q 0 k) q Explored) fs) (sym (sub-zero (degree w.graph q)))
 
 -- the last frame looks at its next sink
 module _ (d : ℕ) (w : Walk) (f : Look) (fs : List Look) (h : f.sink < degree w.graph f.node) (l : f.node < length w.graph) where
@@ -99,23 +100,21 @@ module _ (d : ℕ) (w : Walk) (f : Look) (fs : List Look) (h : f.sink < degree w
   abbrev e : Edge
   e = get_or (node_at w.graph f.node).sinks f.sink no_edge
 
-  abbrev seen : ℕ
+  abbrev seen : Seen
   seen = seen_at w.seen e.to
 
   resume-look : (u : Walk) → look (explore_from d) w f.node f.sink ≡ u → Grown w.graph u.graph → resume d w (f ∷ fs) ≡ resume d u (on ∷ fs)
   unfolding resume
   resume-look u is g =
       let k : rest w f ≡ suc (rest u on) = omega (arith, g.same f.node l) in
-      ap (λ (m : ℕ). resume (suc d) (seeing (explore_sinks (explore_from d) w f.node f.sink m) f.node explored) fs) k
-      ∙ ap (λ (v : Walk). resume (suc d) (seeing (explore_sinks (explore_from d) v f.node (suc f.sink) (rest u on)) f.node explored) fs) is
+      ap (λ (m : ℕ). resume (suc d) (seeing (explore_sinks (explore_from d) w f.node f.sink m) f.node Explored) fs) k
+      ∙ ap (λ (v : Walk). resume (suc d) (seeing (explore_sinks (explore_from d) v f.node (suc f.sink) (rest u on)) f.node Explored) fs) is
 
-  pub resume-pass : (seen ≡ 0 → ⊥) → (seen ≡ 2 → ⊥) → resume d w (f ∷ fs) ≡ resume d w (on ∷ fs)
-  resume-pass a b = resume-look w (rw (ne_eqb seen 0 a, ne_eqb seen 2 b)) (grown_refl w.graph)
+  pub resume-pass : unseen? seen ≡ false → on_path? seen ≡ false → resume d w (f ∷ fs) ≡ resume d w (on ∷ fs)
+  resume-pass a b = resume-look w (rw (a, b)) (grown_refl w.graph)
 
-  pub resume-cut : seen ≡ 2 → resume d w (f ∷ fs) ≡ resume d (cut w f.node f.sink e) (on ∷ fs)
-  resume-cut b =
-      let a : seen ≡ 0 → ⊥ = λ z. omega arith in
-      resume-look (cut w f.node f.sink e) (rw (ne_eqb seen 0 a, eq-eqb seen 2 b)) (cut-grown w f.node f.sink e)
+  pub resume-cut : on_path? seen ≡ true → resume d w (f ∷ fs) ≡ resume d (cut w f.node f.sink e) (on ∷ fs)
+  resume-cut b = resume-look (cut w f.node f.sink e) (rw (seen-on_path seen b, b)) (cut-grown w f.node f.sink e)
 
-  pub resume-go : seen ≡ 0 → resume d w (f ∷ fs) ≡ resume d (explore_from d w e.to) (on ∷ fs)
-  resume-go a = resume-look (explore_from d w e.to) (rw (eq-eqb seen 0 a)) (from-grown d w e.to)
+  pub resume-go : unseen? seen ≡ true → resume d w (f ∷ fs) ≡ resume d (explore_from d w e.to) (on ∷ fs)
+  resume-go a = resume-look (explore_from d w e.to) (rw a) (from-grown d w e.to)

@@ -4,7 +4,8 @@ use Prim.Native.Nat.{ℕ, suc}
 use native.Mathlib.Omega.{arith}
 use mathlib.Core.Path.{◌≡◌, refl, ap, sym, ◌∙◌}
 use mathlib.Core.Logic.{◌⊎◌, inl, inr}
-use mathlib.Core.Option.{Option, none, some}
+use Rattle.std.specs.Prelude.{Option, Some, None}
+use Rattle.refusals.specs.declared.Refusal.{Refusal}
 use mathlib.Core.Bool.{cond}
 use mathlib.Core.List.{List, [], ◌∷◌, ◌++◌, map, append_assoc}
 use lib.Dec.{ltb}
@@ -30,7 +31,7 @@ graph-settings s = go (settings s)
     go (inl e) = inl (ap drawn e)
     go (inr o) = inr o
 
-pub graph_twelve : (s : List ℕ) (o : Outside s) → graphed Strict s ≡ refusal 12 o.target
+pub graph_twelve : (s : List ℕ) (o : Outside s) → graphed Strict s ≡ refusal (Refusal.Outside o.target)
 unfolding graphed
 graph_twelve s o = ap drawn o.refused
 
@@ -39,10 +40,10 @@ outside-none : (n : ℕ) (es : List End) (ts : List ℕ) → outside n (map unma
 outside-none n [] ts h = refl
 outside-none n (e ∷ es) ts h =
     either-by (ltb e.to n)
-    (λ c. cond c (outside n (map unmarked es)) (suc (outside n (map unmarked es))) ≡ 0 → cond c (first_outside (targets es ++ ts) n) (some e.to) ≡ first_outside ts n)
+    (λ c. cond c (outside n (map unmarked es)) (suc (outside n (map unmarked es))) ≡ 0 → cond c (first_outside (targets es ++ ts) n) (Some e.to) ≡ first_outside ts n)
     (λ z k. outside-none n es ts k) (λ z k. absurd (omega (arith, k))) h
 
-first-none : (n : ℕ) (ps : Board) → leads n (given_graph ps) ≡ 0 → first_outside (targets_of ps) n ≡ none
+first-none : (n : ℕ) (ps : Board) → leads n (given_graph ps) ≡ 0 → first_outside (targets_of ps) n ≡ None
 first-none n [] h = refl
 first-none n (p ∷ ps) h =
     rw (append_assoc (targets p.sinks) (targets p.sources) (targets_of ps))
@@ -63,4 +64,4 @@ strict_none s = go (chart Strict s) refl
   where
     go : (r : Reading) → chart Strict s ≡ r → leads_read r ≡ 0
     go (accepted ps) e = none-aimed (length ps) (given_graph ps) (given-aimed Strict s (length ps) (length ps) (λ x h. h.target refl) ps (accepts Strict s ps e).formed)
-    go (refused a b) e = refl
+    go (refused why) e = refl

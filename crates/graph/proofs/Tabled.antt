@@ -1,17 +1,17 @@
 -- The tables of a drawn graph, and of a completed one, hold that graph. So what the crates above take follows from the promises of `graph` (`Graphs`) and `completed`.
 -- Assumes nothing.
-use Prim.Native.Nat.{ℕ, ◌+◌, ◌-◌, ◌%◌, ◌≤◌, ◌<◌}
+use Prim.Native.Nat.{ℕ, ◌+◌, ◌%◌, ◌≤◌, ◌<◌}
 use native.Mathlib.Omega.{arith}
 use native.Mathlib.Nat.{mod-eq_of_lt, zero-add}
-use mathlib.Core.Path.{◌≡◌, refl, ap, ◌∙◌, subst}
+use mathlib.Core.Path.{◌≡◌, refl, ap, sym, ◌∙◌, subst}
 use mathlib.Core.Logic.{◌⊎◌, inl, inr, ⊎_elim}
 use mathlib.Core.Bool.{Bool, true, false}
 use mathlib.Core.Option.{Option, none, some}
 use mathlib.Core.List.{List, [], ◌∷◌, ◌++◌, map, append-nil}
 use lib.Dec.{ltb}
 use lib.ListN.{length, get_or, get_or-map, get_or-eq_default}
-use borrow.Author.Tests.{ltb-true, ltb-false, lt-ltb, le-ltb, ne_eqb}
-use Rattle.laws.specs.Lists.{All, one}
+use borrow.Author.Tests.{ltb-true, ltb-false}
+use Rattle.laws.specs.Lists.{All}
 use Rattle.laws.proofs.Lists.{all_map, all-flat, owned-flat, tabulate_list, get_d_tabulate, get_d_padded, take-padded}
 use Rattle.chart.specs.declared.Line.{Line as LineItem}
 use Rattle.chart.specs.declared.Setting.{Setting}
@@ -24,24 +24,26 @@ use Rattle.chart.specs.Accepted.{Fitting, Formed, Accepted}
 use Rattle.chart.proofs.Gives.{ending-from}
 use Rattle.chart.proofs.Accepts.{accepted as accepts}
 use Rattle.graph.specs.declared.Item.{Item}
+use Rattle.graph.specs.declared.Name.TheVariants.{Nothing}
 use Rattle.graph.specs.declared.Tables.{Tables}
-use Rattle.graph.specs.declared.Outcome.{Outcome}
-use Rattle.graph.specs.Graph.{Line, given, number, invalid, Edge, Node, Graph, bare, given_node, given_graph, node_at}
+use Rattle.std.specs.Prelude.{Result, Ok}
+use Rattle.refusals.specs.declared.Refusal.{Refusal}
+use Rattle.graph.specs.Graph.{Line, given, Edge, Node, Graph, bare, given_node, given_graph, node_at}
 use Rattle.graph.specs.Completion.{complete}
 use Rattle.graph.specs.Joining.{leads_of, uncut}
 use Rattle.graph.specs.Cutting.{cutting}
 use Rattle.graph.specs.Graphed.{Dag, Graphed, ready, refusal, graphed}
 use Rattle.graph.specs.Laws.{Aimed, ends, Named, Laws}
 use Rattle.graph.specs.Completed.{completing, completed, CompletedLaws, IsCompleted}
-use Rattle.graph.specs.code.Tables.{mark_of, edge_of, owned, items_of, node_of, number_line, lines_at, lines_of, graph_from, graph_of, Linked}
-use Rattle.graph.specs.Outcome.{held_mark, item_of, sources_from, sinks_from, texts_in, texts_from, name_of, names_of, tables_of, outcome_of, IsGraph}
-use Rattle.graph.specs.code.Graphs.{no_nodes, Graphs, IsAnswer}
+use Rattle.graph.specs.code.Tables.{mark_of, edge_of, owned, items_of, node_of, name_line, lines_at, lines_of, graph_from, graph_of, Linked}
+use Rattle.graph.specs.Outcome.{held_mark, item_of, sources_from, sinks_from, texts_in, texts_from, name_of, names_of, tables_of, answer_of, IsGraph}
+use Rattle.graph.specs.code.Graphs.{Graphs, IsAnswer}
 use Rattle.graph.proofs.LineLaws.{completed-length}
-use Rattle.graph.proofs.JoinLaws.{OffIn}
+use Rattle.graph.proofs.JoinLaws.{Off}
 use Rattle.graph.proofs.AimLaws.{all_in}
 use Rattle.graph.proofs.Orders.{table-back}
 use Rattle.graph.proofs.Begins.{Kept, uncut-kept, cut-lines, few-lines, none_answers}
-use Rattle.graph.proofs.Gathers.{flat-long, all_from, given_name, Bytes, box-byte, strict-uncut, graph-laws, is-graphs}
+use Rattle.graph.proofs.Gathers.{flat-long, all_from, given_name, strict-uncut, graph-laws, is-graphs}
 
 -- ---- one record, one list of lines
 mark-back : (m : Option ℕ) → mark_of (held_mark m) ≡ m
@@ -68,26 +70,17 @@ texts-given (t ∷ ts) = ap (λ (m : List Part). t ∷ m) (texts-given ts)
 
 -- the lines that the texts and the name of a node give
 abbrev made : List Line → List Line
-made ls = map given (texts_in ls) ++ number_line (name_of ls)
+made ls = map given (texts_in ls) ++ name_line (name_of ls)
 
 given_back : (ts : List Part) → made (map given ts) ≡ map given ts
 given_back ts = rw (texts-given ts, given_name ts) (append-nil (map given ts))
-
-number-back : (q : ℕ) → q < 32 → made (one (number q)) ≡ one (number q)
-number-back q h = let n : (q ≡ 512 → ⊥) = λ e. omega arith in rw (ne_eqb q 512 n, lt-ltb q 256 (omega arith))
-
-off-back : (t : ℕ) → t < 256 → made (one (invalid t)) ≡ one (invalid t)
-off-back t h =
-    let n : (256 + t ≡ 512 → ⊥) = λ e. omega arith in
-    let z : 256 + t - 256 ≡ t = omega arith in
-    rw (ne_eqb (256 + t) 512 n, le-ltb (256 + t) 256 (omega arith), z)
 
 abbrev nobody : GivenNode
 nobody = record { sources = []; lines = []; sinks = [] }
 
 -- the line of an inserted box: a lead's shows its target, a cut's a number
 abbrev Shown : ℕ → List Line → Type 0
-Shown n ls = OffIn n 256 ls ⊎ Named n ls
+Shown n ls = Off n ls ⊎ Named n ls
 
 -- ---- a graph of the chart s, in the setting w, that fits the tables
 record Tabled (w : Setting) (s : List ℕ) (d : Dag) : Type 0 where
@@ -119,7 +112,7 @@ module _ (w : Setting) (s : List ℕ) (d : Dag) (l : Tabled w s d) where
     line-back : (b : Bool) → ltb k (length ps) ≡ b → made (node_at g k).lines ≡ (node_at g k).lines
     line-back true e = rw (given-lines (ltb-true k (length ps) e)) (given_back (get_or ps k nobody).lines)
     line-back false e =
-        ⊎_elim (λ o. rw o.line (off-back o.target o.small)) (λ n. rw n.line (number-back n.q (omega (arith, n.inside, ac.nodes))))
+        ⊎_elim (λ o. rw o.line refl) (λ n. rw n.line refl)
         (l.inserted k (ltb-false k (length ps) e) h)
 
     texts-low : (b : Bool) → ltb k (length ps) ≡ b → All Low (texts_in (node_at g k).lines)
@@ -168,9 +161,9 @@ module _ (w : Setting) (s : List ℕ) (d : Dag) (l : Tabled w s d) where
     owned-texts : owned_lines (0 + i) (texts_from 0 g) ≡ texts_in (node_at g i).lines
     owned-texts = owned-flat (λ (r : LineItem). r.owner) part_of line_of (λ p w. refl) (λ (x : Node). texts_in x.lines) bare 0 i g h (all_map kept g lows)
 
-    name_is : get_or t.names (0 + i) 0 ≡ name_of (node_at g i).lines
+    name_is : get_or t.names (0 + i) Nothing ≡ name_of (node_at g i).lines
     name_is =
-        ap (λ (k : ℕ). get_or t.names k 0) (zero-add i) ∙ get_d_padded 48 512 (names_of g) i 0 (omega (arith, l.boxes))
+        ap (λ (k : ℕ). get_or t.names k Nothing) (zero-add i) ∙ get_d_padded 48 Nothing (names_of g) i Nothing (omega (arith, l.boxes))
         ∙ get_or-map (λ (x : Node). name_of x.lines) g i bare
 
     lines_are : get_or (lines_of t) (0 + i) [] ≡ (node_at g i).lines
@@ -203,12 +196,12 @@ module _ (w : Setting) (s : List ℕ) (d : Dag) (l : Tabled w s d) where
         line_owners = rw texts-are (all-flat line_of (λ (x : Node). texts_in x.lines) n Low (λ (x : LineItem). x.owner < n) (λ p e i k. i) 0 g (omega arith) lows);
       }
 
-  fitting : IsAnswer (ready d) (outcome_of (ready d))
-  fitting = record { graphs = ap (λ (u : Graph). ready (record { graph = u; cuts = d.cuts })) graph-back; whole = refl; linked = linked }
+  fitting : IsAnswer (ready d) (answer_of (ready d))
+  fitting = record { graphs = ap (λ (u : Graph). ready (record { graph = u; cuts = d.cuts })) graph-back; whole = refl; linked = λ t e. let z : tables_of d ≡ t = cc in rw (← z) linked }
 
 -- ---- the graph that is drawn
-drawn-tabled : (w : Setting) (s : List ℕ) → Bytes s → (d : Dag) → Laws w s d → Tabled w s d
-drawn-tabled w s bytes d l =
+drawn-tabled : (w : Setting) (s : List ℕ) (d : Dag) → Laws w s d → Tabled w s d
+drawn-tabled w s d l =
     let z : length (texts_from 0 d.graph) ≡ length (texts_from 0 (cutting (uncut l.board)).graph) = ap (λ (c : Dag). length (texts_from 0 c.graph)) l.walk in
     record {
       board = l.board;
@@ -223,19 +216,22 @@ drawn-tabled w s bytes d l =
     }
   where
     shown : (k : ℕ) → length l.board ≤ k → k < length d.graph → (b : Bool) → ltb k (length l.board + leads_of l.board) ≡ b → Shown (length l.board) (node_at d.graph k).lines
-    shown k h i true e = inl (box-byte w s bytes d l k h (ltb-true k (length l.board + leads_of l.board) e))
+    shown k h i true e =
+        let z : k < length l.board + leads_of l.board = ltb-true k (length l.board + leads_of l.board) e in
+        let b = l.joined k h z in
+        inl (rw (l.kept k h z) (record { target = b.target; past = b.past; line = b.line }))
     shown k h i false e = inr (l.inserted k (ltb-false k (length l.board + leads_of l.board) e) i)
 
-answers : (w : Setting) (s : List ℕ) → Bytes s → (v : Graphed) → graphed w s ≡ v → IsAnswer v (outcome_of v)
-answers w s bytes (ready d) e = fitting w s d (drawn-tabled w s bytes d (graph-laws w s d e))
-answers w s bytes (refusal a b) e = none_answers a b no_nodes refl
+answers : (w : Setting) (s : List ℕ) (v : Graphed) → graphed w s ≡ v → IsAnswer v (answer_of v)
+answers w s (ready d) e = fitting w s d (drawn-tabled w s d (graph-laws w s d e))
+answers w s (refusal why) e = none_answers why
 
 -- what the crates above take from the promise of `graph`
-pub graphs-of : (w : Setting) (s : List ℕ) (r : Outcome) → IsGraph w s r → Graphs w s r
-graphs-of w s r i = is-graphs w s i.bytes r (rw i.whole (answers w s i.bytes (graphed w s) refl))
+pub graphs-of : (w : Setting) (s : List ℕ) (r : Result Tables Refusal) → IsGraph w s r → Graphs w s r
+graphs-of w s r i = is-graphs w s r (rw i.whole (answers w s (graphed w s) refl))
 
 -- ---- the completed graph
-module _ (s : List ℕ) (r : Outcome) (i : IsCompleted s r) where
+module _ (s : List ℕ) (r : Result Tables Refusal) (i : IsCompleted s r) where
   completed-tabled : (ps : Board) → chart Strict s ≡ accepted ps → Tabled Strict s (record { graph = complete (given_graph ps); cuts = 0 })
   completed-tabled ps e =
       let l : CompletedLaws s (given_graph ps) (complete (given_graph ps)) = i.laws ps e in
@@ -252,19 +248,19 @@ module _ (s : List ℕ) (r : Outcome) (i : IsCompleted s r) where
         inserted = λ k h m. absurd (omega (arith, long));
       }
 
-  answers_by : (c : Reading) → chart Strict s ≡ c → IsAnswer (completing c) (outcome_of (completing c))
+  answers_by : (c : Reading) → chart Strict s ≡ c → IsAnswer (completing c) (answer_of (completing c))
   answers_by (accepted ps) e = fitting Strict s (record { graph = complete (given_graph ps); cuts = 0 }) (completed-tabled ps e)
-  answers_by (refused a b) e = none_answers a b no_nodes refl
+  answers_by (refused why) e = none_answers why
 
-  few-by : (c : Reading) → chart Strict s ≡ c → (outcome_of (completing c)).graph.n ≤ 32
-  few-by (accepted ps) e = (i.laws ps e).few
-  few-by (refused a b) e = omega arith
+  few-by : (t : Tables) (c : Reading) → chart Strict s ≡ c → answer_of (completing c) ≡ Ok t → t.n ≤ 32
+  few-by t (accepted ps) e q = let z : tables_of (record { graph = complete (given_graph ps); cuts = 0 }) ≡ t = cc in rw (← z) (i.laws ps e).few
+  few-by t (refused why) e q = let z : ◌≡◌ {A = ℕ} 0 1 = cc in absurd (omega arith)
 
   -- what the crates above take from the promise of `completed`
   pub completed-answers : IsAnswer (completed s) r
   unfolding completed
   completed-answers = rw i.whole (answers_by (chart Strict s) refl)
 
-  pub completed-few : r.graph.n ≤ 32
+  pub completed-few : (t : Tables) → r ≡ Ok t → t.n ≤ 32
   unfolding completed
-  completed-few = rw i.whole (few-by (chart Strict s) refl)
+  completed-few t e = few-by t (chart Strict s) refl (sym i.whole ∙ e)

@@ -8,6 +8,8 @@ use Rattle.graph.specs.Completion.{complete}
 use Rattle.graph.specs.Joining.{joined, uncut}
 use Rattle.graph.specs.Cutting.{cutting, reached}
 use Rattle.chart.specs.declared.Setting.TheVariants.{Strict}
+use Rattle.refusals.specs.Refusals.{numbers_of}
+use Rattle.refusals.specs.declared.Refusal.TheVariants.{ManyBoxes, Outside}
 use Rattle.graph.specs.Graphed.{Graphed, ready, refusal, graphed}
 
 abbrev node : List Edge → List Line → List Edge → Node
@@ -37,7 +39,7 @@ pub data Size : Type 0 where
 
 size_of : Graphed → Size
 size_of (ready d) = size (length d.graph) d.cuts
-size_of (refusal a b) = refused a b
+size_of (refusal why) = refused (numbers_of why).first (numbers_of why).second
 
 -- 0→0: 3 boxes, 1 cut
 self :
@@ -126,12 +128,12 @@ many : size_of (graphed Strict (1 ∷ 1 ∷ 4 ∷ 0 ∷ 0 ∷ 0 ∷ 23 ∷ repli
 unfolding each chart complete joined uncut cutting reached graphed size_of
 many = refl
 
-one_more : graphed Strict (1 ∷ 1 ∷ 4 ∷ 0 ∷ 0 ∷ 0 ∷ 24 ∷ replicate 48 0) ≡ refusal 13 0
+one_more : graphed Strict (1 ∷ 1 ∷ 4 ∷ 0 ∷ 0 ∷ 0 ∷ 24 ∷ replicate 48 0) ≡ refusal ManyBoxes
 unfolding each chart complete joined uncut cutting reached graphed
 one_more = refl
 
 -- a chart's refusal stays
-outside : graphed Strict (1 ∷ 2 ∷ 6 ∷ 0 ∷ 11 ∷ 0 ∷ 1 ∷ 0 ∷ 0 ∷ 5 ∷ 0 ∷ 0 ∷ 0 ∷ 1 ∷ 6 ∷ 0 ∷ []) ≡ refusal 12 5
+outside : graphed Strict (1 ∷ 2 ∷ 6 ∷ 0 ∷ 11 ∷ 0 ∷ 1 ∷ 0 ∷ 0 ∷ 5 ∷ 0 ∷ 0 ∷ 0 ∷ 1 ∷ 6 ∷ 0 ∷ []) ≡ refusal (Outside 5)
 unfolding each chart complete joined uncut cutting reached graphed
 outside = refl
 

@@ -1,20 +1,21 @@
 -- The completed graph of a chart, not cut. The chart is read in the strict setting (document 02, L5), so each end leads to a given node.
 -- Assumes nothing.
-use Rattle.std.specs.Prelude.{ℕ, ◌≤◌, ◌<◌, ◌≡◌, List, length, get_or}
+use Rattle.std.specs.Prelude.{ℕ, ◌≤◌, ◌<◌, ◌≡◌, List, length, get_or, Result, Err}
+use Rattle.refusals.specs.Refusals.{numbers_of, numbers_in}
+use Rattle.refusals.specs.declared.Refusal.{Refusal}
 use Rattle.chart.specs.declared.Setting.TheVariants.{Strict}
 use Rattle.chart.specs.Chart.{Board, Reading, ready as accepted, refusal as refused, chart}
-use Rattle.chart.specs.Read.{numbers, numbers_of}
-use Rattle.graph.specs.declared.Outcome.{Outcome}
+use Rattle.graph.specs.declared.Tables.{Tables}
 use Rattle.graph.specs.Graph.{Node, Graph, given_graph, node_at, leads_to}
 use Rattle.graph.specs.Completion.{complete}
 use Rattle.graph.specs.Graphed.{Graphed, ready, refusal}
 use Rattle.graph.specs.Laws.{Aimed, Marked, Texts, Unmarked, ends}
-use Rattle.graph.specs.Outcome.{outcome_of}
+use Rattle.graph.specs.Outcome.{answer_of}
 
 -- a refused chart stays refused; an accepted one is completed
 abbrev pub completing : Reading → Graphed
 completing (accepted ps) = ready (record { graph = complete (given_graph ps); cuts = 0 })
-completing (refused number second) = refusal number second
+completing (refused why) = refusal why
 
 -- the completed graph of a chart's bytes, or the first of the refusals 1 to 12
 unfoldable pub completed : List ℕ → Graphed
@@ -43,8 +44,10 @@ pub record CompletedLaws (s : List ℕ) (g₀ g : Graph) : Type 0 where
   pub texts : (k : ℕ) → k < length g → Texts g₀ g k
 
 -- r is the completed graph of the chart s
-pub record IsCompleted (s : List ℕ) (r : Outcome) : Type 0 where
-  -- every field, past the counts too; a refused chart's tables are the empty ones, and a refusal is document 01's two numbers
-  pub whole : r ≡ outcome_of (completed s)
-  pub refused : (number second : ℕ) → completed s ≡ refusal number second → numbers_of r.answer ≡ numbers number second
+pub record IsCompleted (s : List ℕ) (r : Result Tables Refusal) : Type 0 where
+  -- every field, past the counts too
+  pub whole : r ≡ answer_of (completed s)
+  -- a refusal is document 01's first
+  pub refused : (why : Refusal) → completed s ≡ refusal why → r ≡ Err why
+  pub numbers : (why : Refusal) → completed s ≡ refusal why → numbers_in r ≡ numbers_of why
   pub laws : (board : Board) → chart Strict s ≡ accepted board → CompletedLaws s (given_graph board) (complete (given_graph board))

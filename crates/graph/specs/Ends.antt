@@ -1,24 +1,29 @@
--- The shape that the code's arrays of ends hold.
+-- The shape that the code's tables of ends hold.
 -- Assumes nothing.
-use Rattle.std.specs.Prelude.{ℕ, ◌≤◌, ◌<◌, List, [], ◌∷◌, map, eqb, get_or, take}
-use Rattle.laws.specs.Lists.{tabulate, keep}
+use Rattle.std.specs.Prelude.{ℕ, ◌≤◌, ◌<◌, List, map, get_or, take}
+use Rattle.laws.specs.Lists.{tabulate, owned_by}
 use Rattle.graph.specs.declared.Item.{Item}
-use Rattle.graph.specs.declared.Table.{Table}
-use Rattle.graph.specs.declared.Ends.{Ends}
+use Rattle.graph.specs.declared.Lead.{Lead}
+use Rattle.graph.specs.Items.{Items, Ends}
 use Rattle.graph.specs.Shape.{Incidents, Shape}
 
--- where the records of a table lead
-abbrev pub ends_in : Table → Ends
-ends_in t = record { owner = map (λ (x : Item). x.owner) t.items; to = map (λ (x : Item). x.to) t.items; count = t.count }
+-- where a record leads
+abbrev pub lead_of : Item → Lead
+lead_of x = record { owner = x.owner; to = x.to }
 
--- the targets of the records that p owns, in order
-abbrev pub targets_of : ℕ → List ℕ → List ℕ → List ℕ
-targets_of p [] ts = []
-targets_of p (o ∷ os) [] = []
-targets_of p (o ∷ os) (t ∷ ts) = keep (eqb o p) t (targets_of p os ts)
+-- where the records of a table lead
+abbrev pub ends_in : Items → Ends
+ends_in t = record { items = map lead_of t.items; count = t.count }
+
+abbrev pub no_lead : Lead
+no_lead = record { owner = 0; to = 0 }
+
+-- the targets of the leads that p owns, in order
+abbrev pub targets_of : ℕ → List Lead → List ℕ
+targets_of = owned_by (λ (l : Lead). l.owner) (λ (l : Lead). l.to)
 
 abbrev pub ends_of : Ends → ℕ → List ℕ
-ends_of e p = targets_of p (take e.count e.owner) (take e.count e.to)
+ends_of e p = targets_of p (take e.count e.items)
 
 abbrev pub incidents_in : Ends → Ends → ℕ → Incidents
 incidents_in sources sinks p = record { sources = ends_of sources p; sinks = ends_of sinks p }
@@ -31,5 +36,5 @@ shape_from n sources sinks = tabulate (incidents_in sources sinks) 0 n
 pub record Linked (n : ℕ) (e : Ends) : Type 0 where
   pub few : e.count ≤ 88
   pub nodes : n ≤ 48
-  pub owner : (k : ℕ) → k < e.count → get_or e.owner k 0 < n
-  pub node : (k : ℕ) → k < e.count → get_or e.to k 0 < n
+  pub owner : (k : ℕ) → k < e.count → (get_or e.items k no_lead).owner < n
+  pub node : (k : ℕ) → k < e.count → (get_or e.items k no_lead).to < n

@@ -8,6 +8,7 @@ use Rattle.graph.specs.Graph.{Line, given, number, invalid, Edge, Node, no_text}
 use Rattle.graph.specs.Completion.{complete}
 use Rattle.graph.specs.Cutting.{reached, cutting}
 use Rattle.graph.specs.Joining.{joined, uncut}
+use Rattle.refusals.specs.Refusals.{numbers_of}
 use Rattle.graph.specs.Graphed.{Graphed, ready, refusal, boxed}
 
 -- a given end without a text, and one with a text's place and length
@@ -121,7 +122,7 @@ pub data Size : Type 0 where
 
 size_of : Graphed → Size
 size_of (ready d) = size (length d.graph) d.cuts
-size_of (refusal a b) = refused a b
+size_of (refusal why) = refused (numbers_of why).first (numbers_of why).second
 
 -- one node, 47 sinks to 200: 48 boxes; 48: 13
 leads_47 : size_of (boxed (cutting (uncut (block [] [] (replicate 47 (end 200)) ∷ [])))) ≡ size 48 0

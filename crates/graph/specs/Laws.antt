@@ -10,7 +10,8 @@ use Rattle.laws.specs.Each.{each}
 use Rattle.graph.specs.Graph.{Line, number, invalid, Edge, Node, Graph, no_text, no_edge, given_graph, node_at, degree}
 use Rattle.graph.specs.Completion.{complete}
 use Rattle.graph.specs.Joining.{leads_of, uncut}
-use Rattle.graph.specs.Cutting.{unseen, mark_root, reached, start, beginning, cutting}
+use Rattle.graph.specs.declared.reach.Seen.TheVariants.{Unseen}
+use Rattle.graph.specs.Cutting.{mark_root, reached, start, beginning, cutting}
 use Rattle.graph.specs.Graphed.{Dag, dag_of}
 
 -- each source and each sink leads to one of the first n nodes
@@ -139,5 +140,5 @@ pub record Laws (w : Setting) (s : List ℕ) (d : Dag) : Type 0 where
 -- the walks of an accepted board end by themselves: no depth is used up, any larger bound gives the same
 pub record Walks (board : Board) : Type 0 where
   pub roots : (more : ℕ) →
-      each (replicate (length (uncut board)) unseen) (mark_root (length (uncut board) + more) (uncut board)) (length (uncut board)) ≡ reached (uncut board)
+      each (replicate (length (uncut board)) Unseen) (mark_root (length (uncut board) + more) (uncut board)) (length (uncut board)) ≡ reached (uncut board)
   pub starts : (more : ℕ) → each (beginning (uncut board)) (start (length (uncut board) + more)) (length (uncut board)) ≡ cutting (uncut board)

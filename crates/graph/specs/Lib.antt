@@ -1,4 +1,5 @@
 -- The definitions of document 01, modules 2 and 3, on lists.
+pub mod Items
 pub mod Graph
 pub mod Completion
 pub mod Cutting

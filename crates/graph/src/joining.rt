@@ -2,85 +2,37 @@
 ghost use Rattle.std.specs.Prelude.{◌≡◌, ◌<◌, ◌≤◌, length};
 ghost use Rattle.graph.specs.Graph.{node_at};
 ghost use Rattle.graph.specs.Joining.{leads, join_sinks, join_sources, joined};
-ghost use Rattle.graph.specs.code.Tables.{items_of, graph_of, far, source_of, sink_of, Standing, Fits, EndsJoined, Joined};
+ghost use Rattle.graph.specs.code.Tables.{graph_of, far, Standing, Fits, EndsJoined, Joined};
 
-use crate::cutting::point;
-use crate::records::push;
-use crate::{Item, Table, Tables};
+use crate::records::{sink_of, source_of};
+use crate::{Item, Name, Tables};
 
 // How many records lead to none of the first n nodes.
-pub fn count_far(t: Table, n: usize) -> usize
-    requires { t.count ≤ 88 }
-    ensures { result ≡ length (far n (items_of t)) }
+fn count_far(items: &[Item], n: usize) -> usize
+    ensures { result ≡ length (far n items.now) }
 {
-    let mut c: usize = 0;
-    let mut k: usize = 0;
-    while k < t.count {
-        let e = t.items[k];
-        k += 1;
-        if n <= e.to as usize {
-            c += 1;
-        }
-    }
-    c
+    items.iter().filter(|e| n <= e.to as usize).count()
 }
 
 // How many ends lead to none of the nodes.
-pub fn count_leads(t: Tables) -> usize
-    requires { Standing t }
-    ensures { (result ≡ leads t.n (graph_of t)) × (result ≤ 176) }
+pub fn count_leads(t: &Tables) -> usize
+    requires { Standing t.now }
+    ensures { (result ≡ leads t.now.n (graph_of t.now)) × (result ≤ 176) }
 {
-    let n = t.n;
-    let sources = t.sources;
-    let sinks = t.sinks;
-    count_far(sinks, n) + count_far(sources, n)
+    count_far(t.sinks.as_slice(), t.n) + count_far(t.sources.as_slice(), t.n)
 }
 
-// The source of box a, from sink i of p.
-fn source_of(p: u8, i: u8, a: u8) -> Item
-    requires { i < 88 }
-    ensures { result ≡ source_of p i a }
+// The sinks of p: each that leads to none of the first n nodes gets a box, which has its source. (By place, since a turn writes both tables; a sink's
+// number goes with its source, and a source has none: so the next function is no twin.)
+fn join_sinks(t: &mut Tables, p: u8, n: usize)
+    requires standing { Standing t.old }
+    requires p_lt_n { p < t.old.n }
+    requires fits { Fits (join_sinks n (graph_of t.old) p 0 (node_at (graph_of t.old) p).sinks) }
+    ensures { EndsJoined (join_sinks n) (λ x. x.sinks) t.old p t.new }
 {
-    Item {
-        at: 0,
-        owner: a,
-        to: p,
-        mark: i + 1,
-        len: 0,
-    }
-}
-
-// The sink of box a, to p.
-fn sink_of(p: u8, a: u8) -> Item
-    ensures { result ≡ sink_of p a }
-{
-    Item {
-        at: 0,
-        owner: a,
-        to: p,
-        mark: 0,
-        len: 0,
-    }
-}
-
-// The sinks of p: each that leads to none of the first n nodes gets a box, which has its source. (Over tables of its own, for the memory: with a step that
-// is handed `Tables` by value the sheet takes 784 bytes more of the unit's stack.)
-fn join_sinks(t: Tables, p: u8, n: usize) -> Tables
-    requires standing { Standing t }
-    requires p_lt_n { p < t.n }
-    requires fits { Fits (join_sinks n (graph_of t) p 0 (node_at (graph_of t) p).sinks) }
-    ensures { EndsJoined (join_sinks n) (λ x. x.sinks) t p result }
-{
-    let mut m = t.n;
-    let mut names = t.names;
-    let mut sources = t.sources;
-    let mut sinks = t.sinks;
     let mut i: u8 = 0;
-    let mut k: usize = 0;
-    while k < sinks.count {
-        let e = sinks.items[k];
-        let at = k;
-        k += 1;
+    for k in 0..t.sinks.as_slice().len() {
+        let e = t.sinks.items[k];
         if e.owner != p {
             continue;
         }
@@ -89,80 +41,49 @@ fn join_sinks(t: Tables, p: u8, n: usize) -> Tables
         if (e.to as usize) < n {
             continue;
         }
+        let m = t.n;
         let a = m as u8;
-        sources = push(sources, source_of(p, j, a));
-        sinks = point(sinks, at, a);
-        names[m] = 256 + e.to as u16;
-        m += 1;
-    }
-    let lines = t.lines;
-    Tables {
-        n: m,
-        cuts: t.cuts,
-        names: names,
-        lines: lines,
-        sources: sources,
-        sinks: sinks,
+        t.sources.push(source_of(p, j, a));
+        t.sinks.items[k].to = a;
+        t.names[m] = Name::Invalid(e.to);
+        t.n = m + 1;
     }
 }
 
 // The sources of p: each that leads to none of the first n nodes gets a box, which has its sink.
-fn join_sources(t: Tables, p: u8, n: usize) -> Tables
-    requires standing { Standing t }
-    requires p_lt_n { p < t.n }
-    requires fits { Fits (join_sources n (graph_of t) p 0 (node_at (graph_of t) p).sources) }
-    ensures { EndsJoined (join_sources n) (λ x. x.sources) t p result }
+fn join_sources(t: &mut Tables, p: u8, n: usize)
+    requires standing { Standing t.old }
+    requires p_lt_n { p < t.old.n }
+    requires fits { Fits (join_sources n (graph_of t.old) p 0 (node_at (graph_of t.old) p).sources) }
+    ensures { EndsJoined (join_sources n) (λ x. x.sources) t.old p t.new }
 {
-    let mut m = t.n;
-    let mut names = t.names;
-    let mut sources = t.sources;
-    let mut sinks = t.sinks;
-    let mut k: usize = 0;
-    while k < sources.count {
-        let e = sources.items[k];
-        let at = k;
-        k += 1;
-        if e.owner != p {
+    for k in 0..t.sources.as_slice().len() {
+        let e = t.sources.items[k];
+        if e.owner != p || (e.to as usize) < n {
             continue;
         }
-        if (e.to as usize) < n {
-            continue;
-        }
+        let m = t.n;
         let a = m as u8;
-        sinks = push(sinks, sink_of(p, a));
-        sources = point(sources, at, a);
-        names[m] = 256 + e.to as u16;
-        m += 1;
-    }
-    let lines = t.lines;
-    Tables {
-        n: m,
-        cuts: t.cuts,
-        names: names,
-        lines: lines,
-        sources: sources,
-        sinks: sinks,
+        t.sinks.push(sink_of(p, a));
+        t.sources.items[k].to = a;
+        t.names[m] = Name::Invalid(e.to);
+        t.n = m + 1;
     }
 }
 
 // Each end that leads to none of the nodes gets a box, node by node, sinks first; there are `count` such ends.
-pub fn join(t: Tables, count: usize) -> Tables
-    requires standing { Standing t }
-    requires fits { Fits (joined t.n (graph_of t)) }
-    requires count_value { count ≡ leads t.n (graph_of t) }
-    ensures { Joined t result }
+pub fn join(t: &mut Tables, count: usize)
+    requires standing { Standing t.old }
+    requires fits { Fits (joined t.old.n (graph_of t.old)) }
+    requires count_value { count ≡ leads t.old.n (graph_of t.old) }
+    ensures { Joined t.old t.new }
 {
     if count == 0 {
-        return t;
+        return;
     }
     let n = t.n;
-    let mut s = t;
-    let mut p: usize = 0;
-    while p < n {
-        let at = p as u8;
-        p += 1;
-        s = join_sinks(s, at, n);
-        s = join_sources(s, at, n);
+    for p in 0..n {
+        join_sinks(t, p as u8, n);
+        join_sources(t, p as u8, n);
     }
-    s
 }

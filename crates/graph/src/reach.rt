@@ -1,102 +1,75 @@
 // What roots reach: a depth-first walk with an explicit path.
-ghost use Rattle.std.specs.Prelude.{◌≡◌, ◌<◌, ◌≤◌, not, take};
-ghost use Rattle.graph.specs.code.Tables.{Linked, graph_of, items_of, owned};
+ghost use Rattle.std.specs.Prelude.{◌≡◌, ◌<◌, take};
+ghost use Rattle.graph.specs.code.Tables.{Linked, graph_of, owned};
 ghost use Rattle.graph.specs.Graph.{none?};
 ghost use Rattle.graph.specs.Cutting.{mark_from, reached};
 
-use crate::cutting::{Found, find_sink};
-use crate::{Table, Tables};
+use crate::{Item, NODES, Tables};
 
-// A node on the path, and the place in the table of sinks where it looks next.
+// How a node stands in the walks.
+#[derive(Clone, Copy, PartialEq, Eq)]
+pub enum Seen {
+    Unseen,
+    Marked,
+    OnPath,
+    Explored,
+}
+
+// A node on the path, and the place in the table of sinks where it looks next. (The path is an array and a depth: a table has no way to take its last
+// one away, and calls would have no bound.)
 #[derive(Clone, Copy)]
 pub struct Frame {
     pub node: u8,
     pub at: u8,
 }
 
-// The walk's state: how each node stands (0 unseen, 1 marked), and the path, the first depth frames.
-#[derive(Clone, Copy)]
-pub struct Path {
-    pub seen: [u8; 48],
-    pub frames: [Frame; 48],
-    pub depth: usize,
-}
-
-// The nodes that a walk from p reaches are marked. One step: the last node of the path looks at one record of the table, or leaves the path at the table's end.
-pub fn mark_from(t: Tables, seen: [u8; 48], p: u8) -> [u8; 48]
-    requires linked { Linked t }
-    requires p_lt_n { p < t.n }
-    ensures { take t.n result ≡ mark_from t.n (graph_of t) (take t.n seen) p }
+// The nodes that a walk from p reaches are marked. The path is the first depth frames.
+// One step: the last node of the path looks at one record of the table, or leaves the path at the table's end.
+fn mark_from(t: &Tables, seen: &mut [Seen; NODES], p: u8)
+    requires linked { Linked t.now }
+    requires p_lt_n { p < t.now.n }
+    ensures { take t.now.n seen.new ≡ mark_from t.now.n (graph_of t.now) (take t.now.n seen.old) p }
 {
-    let at = p as usize;
-    if seen[at] != 0 {
-        return seen;
+    if seen[p as usize] != Seen::Unseen {
+        return;
     }
-    let items = t.sinks.items;
-    let mut first = seen;
-    first[at] = 1;
-    let mut frames = [Frame { node: 0, at: 0 }; 48];
+    seen[p as usize] = Seen::Marked;
+    let sinks = t.sinks.as_slice();
+    let mut frames = [Frame { node: 0, at: 0 }; NODES];
     frames[0] = Frame { node: p, at: 0 };
-    let mut s = Path {
-        seen: first,
-        frames: frames,
-        depth: 1,
-    };
-    while 0 < s.depth {
-        let top = s.depth - 1;
-        let f = s.frames[top];
-        let k = f.at as usize;
-        if t.sinks.count <= k {
-            s.depth = top;
+    let mut depth: usize = 1;
+    while 0 < depth {
+        let top = depth - 1;
+        let f = frames[top];
+        let Some(e) = sinks.get(f.at as usize) else {
+            depth = top;
             continue;
-        }
-        s.frames[top] = Frame {
-            node: f.node,
-            at: f.at + 1,
         };
-        let e = items[k];
-        if e.owner != f.node {
-            continue;
+        frames[top].at += 1;
+        if e.owner == f.node && seen[e.to as usize] == Seen::Unseen {
+            seen[e.to as usize] = Seen::Marked;
+            frames[depth] = Frame { node: e.to, at: 0 };
+            depth += 1;
         }
-        let q = e.to as usize;
-        if s.seen[q] != 0 {
-            continue;
-        }
-        s.seen[q] = 1;
-        let d = s.depth;
-        s.frames[d] = Frame { node: e.to, at: 0 };
-        s.depth = d + 1;
     }
-    s.seen
 }
 
-// Whether p owns no record of the table.
-fn owns_none(t: Table, p: u8) -> bool
-    requires { t.count ≤ 88 }
-    ensures { result ≡ none? (owned p (items_of t)) }
+// Whether p owns none of the records.
+fn owns_none(items: &[Item], p: u8) -> bool
+    ensures { result ≡ none? (owned p items.now) }
 {
-    let found = find_sink(t, p, 0);
-    if let Found::Nothing = found {
-        true
-    } else {
-        false
-    }
+    items.iter().all(|e| e.owner != p)
 }
 
 // What roots reach is marked.
-pub fn mark_roots(t: Tables) -> [u8; 48]
-    requires { Linked t }
-    ensures { take t.n result ≡ reached (graph_of t) }
+pub fn mark_roots(t: &Tables) -> [Seen; NODES]
+    requires { Linked t.now }
+    ensures { take t.now.n result ≡ reached (graph_of t.now) }
 {
-    let sources = t.sources;
-    let mut seen = [0u8; 48];
-    let mut p: u8 = 0;
-    while (p as usize) < t.n {
-        let at = p;
-        p += 1;
-        if owns_none(sources, at) {
-            let next = mark_from(t, seen, at);
-            seen = next;
+    let mut seen = [Seen::Unseen; NODES];
+    for p in 0..t.n {
+        if owns_none(t.sources.as_slice(), p as u8) {
+            mark_from(t, &mut seen, p as u8);
         }
     }
     seen

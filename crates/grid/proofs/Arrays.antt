@@ -1,49 +1,34 @@
 -- Laws on what arrays hold: the records that a node owns, a table that is filled.
 -- Assumes nothing.
-use Prim.Native.Nat.{ℕ, zero, suc, ◌+◌, ◌-◌, ◌≤◌, ◌<◌}
+use Prim.Native.Nat.{ℕ, zero, suc, ◌+◌, ◌≤◌, ◌<◌}
 use native.Mathlib.Omega.{arith}
 use native.Mathlib.Numerals.{add-one}
 use native.Mathlib.Nat.{le_of_suc-le-suc, not-suc-le-zero}
-use mathlib.Core.Path.{◌≡◌, ap, sym, ◌∙◌, subst}
+use mathlib.Core.Path.{◌≡◌, ap, sym, ◌∙◌}
 use mathlib.Core.List.{List, [], ◌∷◌, ◌++◌}
-use lib.Dec.{eqb}
 use lib.ListN.{length, get_or, set, take, drop}
-use lib.Seq.{get_or-take, length-take-le}
+use Rattle.std.proofs.lemmas.List.{at_drop_more, at_drop_all, length-take}
 use borrow.Author.Tests.{eq-eqb, ne_eqb}
-use Rattle.laws.specs.Lists.{All, one, tabulate, keep, owned_by, padded}
-use Rattle.laws.proofs.Lists.{drop-up, drop_past, padded-set, length-tabulate, get_d_tabulate, tabulate-snoc, get_d_padded}
+use Rattle.graph.specs.declared.Item.{Item}
+use Rattle.graph.specs.Outcome.{no_item}
+use Rattle.graph.specs.code.Tables.{owned, edge_of}
+use Rattle.laws.specs.Lists.{All, one, tabulate, padded}
+use Rattle.laws.proofs.Lists.{padded-set, length-tabulate, get_d_tabulate, tabulate-snoc, get_d_padded}
 
--- ---- the first `count` records of an array, and those of them that p owns
-module _ {R W : Type 0} (owner : R → ℕ) (value : R → W) (z : R) (p : ℕ) (array : List R) (count : ℕ) (room : count ≤ length array) where
-  -- from record k on
-  rest_at : (k : ℕ) → k < count →
-      owned_by owner value p (drop k (take count array))
-      ≡ keep (eqb (owner (get_or array k z)) p) (value (get_or array k z)) (owned_by owner value p (drop (k + 1) (take count array)))
-  rest_at k h = ap (owned_by owner value p) (drop-up z count array room k h)
+-- ---- the ends that p owns, from record k on
+module _ (p : ℕ) (xs : List Item) (k : ℕ) where
+  pub ends-here : k < length xs → (get_or xs k no_item).owner ≡ p → owned p (drop k xs) ≡ edge_of (get_or xs k no_item) ∷ owned p (drop (k + 1) xs)
+  ends-here h e = at_drop_more (owned p) xs k no_item h ∙ rw (eq-eqb (get_or xs k no_item).owner p e)
 
-  pub own-up : (k : ℕ) → k < count → owner (get_or array k z) ≡ p →
-      owned_by owner value p (drop k (take count array)) ≡ value (get_or array k z) ∷ owned_by owner value p (drop (k + 1) (take count array))
-  own-up k h e = rest_at k h ∙ rw (eq-eqb (owner (get_or array k z)) p e)
+  pub ends-past : k < length xs → ((get_or xs k no_item).owner ≡ p → ⊥) → owned p (drop k xs) ≡ owned p (drop (k + 1) xs)
+  ends-past h e = at_drop_more (owned p) xs k no_item h ∙ rw (ne_eqb (get_or xs k no_item).owner p e)
 
-  pub other-up : (k : ℕ) → k < count → (owner (get_or array k z) ≡ p → ⊥) →
-      owned_by owner value p (drop k (take count array)) ≡ owned_by owner value p (drop (k + 1) (take count array))
-  other-up k h e = rest_at k h ∙ rw (ne_eqb (owner (get_or array k z)) p e)
+  pub ends-end : length xs ≤ k → owned p (drop k xs) ≡ []
+  ends-end h = at_drop_all (owned p) xs k h
 
-  pub none_left : (k : ℕ) → count ≤ k → owned_by owner value p (drop k (take count array)) ≡ []
-  none_left k h = ap (owned_by owner value p) (drop_past count array room k h)
-
-  -- the same where a loop counts down
-  pub own-down : (k : ℕ) → 0 < k → k ≤ count → owner (get_or array (k - 1) z) ≡ p →
-      owned_by owner value p (drop (k - 1) (take count array)) ≡ value (get_or array (k - 1) z) ∷ owned_by owner value p (drop k (take count array))
-  own-down k l h e =
-      let i : k - 1 + 1 ≡ k = omega arith in
-      own-up (k - 1) (omega arith) e ∙ ap (λ (j : ℕ). value (get_or array (k - 1) z) ∷ owned_by owner value p (drop j (take count array))) i
-
-  pub other-down : (k : ℕ) → 0 < k → k ≤ count → (owner (get_or array (k - 1) z) ≡ p → ⊥) →
-      owned_by owner value p (drop (k - 1) (take count array)) ≡ owned_by owner value p (drop k (take count array))
-  other-down k l h e =
-      let i : k - 1 + 1 ≡ k = omega arith in
-      other-up (k - 1) (omega arith) e ∙ ap (λ (j : ℕ). owned_by owner value p (drop j (take count array))) i
+-- a table's slice is no longer than its array
+pub slice_few : {A : Type 0} (m n : ℕ) (xs ys : List A) → ys ≡ take n xs → length xs ≡ m → length ys ≤ m
+slice_few m n xs ys e l = omega (arith, ap length e, length-take n xs)
 
 -- ---- a table that is filled from its start
 module _ {A : Type 0} (f : ℕ → A) where
@@ -63,9 +48,6 @@ pub all-at : {A : Type 0} (P : A → Type 0) (z : A) (xs : List A) (i : ℕ) →
 all-at P z [] i h a = absurd (not-suc-le-zero h)
 all-at P z (x ∷ xs) zero h a = a.0
 all-at P z (x ∷ xs) (suc i) h a = all-at P z xs i (le_of_suc-le-suc h) a.1
-
-pub all-take-at : {A : Type 0} (P : A → Type 0) (z : A) (xs : List A) (n i : ℕ) → n ≤ length xs → i < n → All P (take n xs) → P (get_or xs i z)
-all-take-at P z xs n i l h a = subst P (get_or-take n xs i z h) (all-at P z (take n xs) i (omega (arith, length-take-le n xs l)) a)
 
 pub all-by : {A : Type 0} (P : A → Type 0) (z : A) (xs : List A) → ((i : ℕ) → i < length xs → P (get_or xs i z)) → All P xs
 all-by P z [] h = tt

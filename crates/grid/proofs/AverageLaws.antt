@@ -1,139 +1,85 @@
--- What the averaging step needs. Its loop counts down, so that it meets the boxes in the order of the definitions.
+-- What the averaging step needs: what the boxes from k on leave free around a box, and the columns of some nodes, one by one.
 -- Assumes nothing.
-use Prim.Native.Nat.{ℕ, ◌+◌, ◌-◌, ◌≤◌, ◌<◌, min, max}
+use Prim.Native.Nat.{ℕ, suc, ◌+◌, ◌<◌, min, max}
 use native.Mathlib.Omega.{arith}
+use native.Mathlib.Numerals.{add-one}
 use mathlib.Core.Path.{◌≡◌, refl, ap, sym, ◌∙◌}
-use mathlib.Core.Option.{Option, none, some}
+use mathlib.Core.Option as maybe
+use mathlib.Core.Option.{none, some}
 use mathlib.Core.Bool.{Bool, true, false, cond, ◌&&◌}
-use mathlib.Core.List.{List, ◌∷◌, ◌++◌}
+use mathlib.Core.List.{List, [], ◌∷◌}
 use lib.Dec.{eqb, ltb}
-use lib.ListN.{length, set, take, drop, length-take}
-use lib.Seq.{get_or-take}
-use borrow.Author.Tests.{eq-eqb, ne_eqb, lt-ltb, le-ltb}
-use Rattle.laws.proofs.Tests.{and_false}
-use Rattle.laws.proofs.Lists.{drop-down, drop-end}
-use Rattle.grid.specs.Lists.{or_else}
-use Rattle.grid.specs.Columns.{at, nearer, right_of, right_end, left_end, clamp, average_to}
-use Rattle.grid.specs.code.Arrays.{Boxes}
-use Rattle.grid.proofs.ListLaws.{set_first}
-use Rattle.grid.proofs.ColumnLaws.{Beyond, Under, left-most, right-beyond, right-under, end-least}
+use lib.ListN.{length, drop}
+use lib.Seq.{drop-cons}
+use Rattle.std.specs.Prelude.{Option, Some, None}
+use Rattle.std.specs.Option.{unwrap_or}
+use Rattle.grid.specs.Lists.{largest, smallest}
+use Rattle.grid.specs.Columns.{at, nearer, right_of, left_end, columns_of}
+use Rattle.grid.specs.code.Arrays.{Inside, held}
 
-or_nearer : (t : Bool) (c : ℕ) (o : Option ℕ) → c ≤ 255 → or_else 255 (nearer t c o) ≡ cond t (min c (or_else 255 o)) (or_else 255 o)
-or_nearer true c none h = omega arith
-or_nearer true c (some y) h = refl
-or_nearer false c o h = refl
+-- the nearer of two right neighbours, if there is one
+abbrev pub nearest : maybe.Option ℕ → maybe.Option ℕ → maybe.Option ℕ
+nearest none o = o
+nearest (some c) o = nearer true c o
 
--- a box's row and column, y and a or b, against row r and the other
-module _ (y r a b v w : ℕ) where
-  not_row : (y ≡ r → ⊥) → cond (eqb y r && ltb a b) v w ≡ w
-  not_row h = rw (ne_eqb y r h)
+pub nearest-none : (o : maybe.Option ℕ) → nearest o none ≡ o
+nearest-none none = refl
+nearest-none (some c) = refl
 
-  not_side : b ≤ a → cond (eqb y r && ltb a b) v w ≡ w
-  not_side h = rw (le-ltb a b h, and_false (eqb y r))
+nearest-nearer : (a c : ℕ) (o : maybe.Option ℕ) → nearer true a (nearer true c o) ≡ nearer true (min a c) o
+nearest-nearer a c none = refl
+nearest-nearer a c (some b) = ap some (omega arith)
 
-  on_side : y ≡ r → a < b → cond (eqb y r && ltb a b) v w ≡ v
-  on_side h k = rw (eq-eqb y r h, lt-ltb a b k)
+-- box k, at row y and column c, before those after it
+module _ (r x : ℕ) (rows cols : List ℕ) (k : ℕ) (hr : k < length rows) (hc : k < length cols) where
+  abbrev y : ℕ
+  y = at rows k
 
--- low and next are what the boxes from k on, of the first n, leave free around column x of row r
-abbrev pub Free : ℕ → List ℕ → List ℕ → ℕ → ℕ → ℕ → ℕ → ℕ → Type 0
-Free n rows cols r x k low next =
-    (k ≤ n) × (low ≡ left_end (drop k (take n rows)) (drop k (take n cols)) r x) × (next ≡ or_else 255 (right_of (drop k (take n rows)) (drop k (take n cols)) r x))
+  abbrev c : ℕ
+  c = at cols k
 
--- what they leave free with box k - 1, at row y and column c
-pub record OneMore (n : ℕ) (rows cols : List ℕ) (r x k low next : ℕ) (y c : ℕ) : Type 0 where
-  pub other_row : (y ≡ r → ⊥) → Free n rows cols r x (k - 1) low next
-  pub here : c ≡ x → Free n rows cols r x (k - 1) low next
-  pub left : y ≡ r → c < x → low ≤ c → Free n rows cols r x (k - 1) (c + 1) next
-  pub left_far : y ≡ r → c < x → c < low → Free n rows cols r x (k - 1) low next
-  pub right : y ≡ r → x < c → c < next → Free n rows cols r x (k - 1) low c
-  pub right_far : y ≡ r → x < c → next ≤ c → Free n rows cols r x (k - 1) low next
+  abbrev R : List ℕ
+  R = drop (k + 1) rows
 
-module _ (n : ℕ) (rows cols : List ℕ) (r x : ℕ) (lr : n ≤ length rows) (lc : n ≤ length cols) where
-  abbrev R : ℕ → List ℕ
-  R k = drop k (take n rows)
+  abbrev C : List ℕ
+  C = drop (k + 1) cols
 
-  abbrev C : ℕ → List ℕ
-  C k = drop k (take n cols)
+  pub left_more : left_end (drop k rows) (drop k cols) r x ≡ max (cond (eqb y r && ltb c x) (c + 1) 0) (left_end R C r x)
+  left_more = rw (drop-cons rows k 0 hr, drop-cons cols k 0 hc, add-one k) refl
 
-  pub all-free : Free n rows cols r x n 0 255
-  all-free =
-      (omega arith, sym (ap (λ (a : List ℕ). left_end a (C n) r x) (drop-end n rows lr)), sym (ap (λ (a : List ℕ). or_else 255 (right_of a (C n) r x)) (drop-end n rows lr)))
+  pub right_more : right_of (drop k rows) (drop k cols) r x ≡ nearer (eqb y r && ltb x c) c (right_of R C r x)
+  right_more = rw (drop-cons rows k 0 hr, drop-cons cols k 0 hc, add-one k) refl
 
-  pub one_more : (k low next : ℕ) → 0 < k → Free n rows cols r x k low next → at cols (k - 1) ≤ 255 →
-      OneMore n rows cols r x k low next (at rows (k - 1)) (at cols (k - 1))
-  one_more k low next z f b =
-      record {
-        other_row = λ o. (omega arith, omega (arith, l, not_row y r c x (c + 1) 0 o), omega (arith, g, not_row y r x c (min c next) next o));
-        here = λ e. (omega arith, omega (arith, l, not_side y r c x (c + 1) 0 (omega arith)), omega (arith, g, not_side y r x c (min c next) next (omega arith)));
-        left = λ e h i. (omega arith, omega (arith, l, on_side y r c x (c + 1) 0 e h), omega (arith, g, not_side y r x c (min c next) next (omega arith)));
-        left_far = λ e h i. (omega arith, omega (arith, l, on_side y r c x (c + 1) 0 e h), omega (arith, g, not_side y r x c (min c next) next (omega arith)));
-        right = λ e h i. (omega arith, omega (arith, l, not_side y r c x (c + 1) 0 (omega arith)), omega (arith, g, on_side y r x c (min c next) next e h));
-        right_far = λ e h i. (omega arith, omega (arith, l, not_side y r c x (c + 1) 0 (omega arith)), omega (arith, g, on_side y r x c (min c next) next e h));
-      }
+  -- with it
+  pub left_met : (b : Bool) (low new : ℕ) → (eqb y r && ltb c x) ≡ b → new ≡ cond b (max low (c + 1)) low →
+      max low (left_end (drop k rows) (drop k cols) r x) ≡ left_end rows cols r x → max new (left_end R C r x) ≡ left_end rows cols r x
+  left_met b low new t e i = go b t e ∙ i
     where
-      y : ℕ
-      y = at rows (k - 1)
+      go : (b : Bool) → (eqb y r && ltb c x) ≡ b → new ≡ cond b (max low (c + 1)) low → max new (left_end R C r x) ≡ max low (left_end (drop k rows) (drop k cols) r x)
+      go true t e = let f = rw t at left_more in omega (arith, e, f)
+      go false t e = let f = rw t at left_more in omega (arith, e, f)
 
-      c : ℕ
-      c = at cols (k - 1)
+  pub right_met : (b : Bool) (next new : Option ℕ) → (eqb y r && ltb x c) ≡ b → new ≡ cond b (Some (min (unwrap_or next c) c)) next →
+      nearest (held next) (right_of (drop k rows) (drop k cols) r x) ≡ right_of rows cols r x → nearest (held new) (right_of R C r x) ≡ right_of rows cols r x
+  right_met b next new t e i = rw e (go b t next) ∙ i
+    where
+      go : (b : Bool) → (eqb y r && ltb x c) ≡ b → (next : Option ℕ) → nearest (held (cond b (Some (min (unwrap_or next c) c)) next)) (right_of R C r x) ≡ nearest (held next) (right_of (drop k rows) (drop k cols) r x)
+      go true t None = let f : min c c ≡ c = omega arith in ap (λ (m : ℕ). nearer true m (right_of R C r x)) f ∙ sym (rw t at right_more)
+      go true t (Some a) = sym (nearest-nearer a c (right_of R C r x)) ∙ ap (nearer true a) (sym (rw t at right_more))
+      go false t o = ap (nearest (held o)) (sym (rw t at right_more))
 
-      l : left_end (R (k - 1)) (C (k - 1)) r x ≡ max (cond (eqb y r && ltb c x) (c + 1) 0) low
-      l =
-          ap (λ (a : List ℕ). left_end a (C (k - 1)) r x) (drop-down 0 n rows lr k z f.0)
-          ∙ ap (λ (a : List ℕ). left_end (y ∷ R k) a r x) (drop-down 0 n cols lc k z f.0)
-          ∙ ap (max (cond (eqb y r && ltb c x) (c + 1) 0)) (sym f.1)
+-- ---- the columns of some nodes
+module _ (cols nodes : List ℕ) (k : ℕ) (h : k < length nodes) where
+  pub columns_more : columns_of cols (drop k nodes) ≡ at cols (at nodes k) ∷ columns_of cols (drop (k + 1) nodes)
+  columns_more = rw (drop-cons nodes k 0 h, add-one k) refl
 
-      g : or_else 255 (right_of (R (k - 1)) (C (k - 1)) r x) ≡ cond (eqb y r && ltb x c) (min c next) next
-      g =
-          ap (λ (a : List ℕ). or_else 255 (right_of a (C (k - 1)) r x)) (drop-down 0 n rows lr k z f.0)
-          ∙ ap (λ (a : List ℕ). or_else 255 (right_of (y ∷ R k) a r x)) (drop-down 0 n cols lc k z f.0)
-          ∙ or_nearer (eqb y r && ltb x c) c (right_of (R k) (C k) r x) b
-          ∙ ap (λ (m : ℕ). cond (eqb y r && ltb x c) (min c m) m) (sym f.2)
+pub smallest-min : (m x : ℕ) (xs : List ℕ) → smallest (min m x) xs ≡ min x (smallest m xs)
+smallest-min m x [] = omega arith
+smallest-min m x (a ∷ xs) = omega (arith, smallest-min m x xs)
 
--- 255 stands for none
-right-end-is : (x : ℕ) (o : Option ℕ) → Under 255 o → cond (eqb (or_else 255 o) 255) x (or_else 255 o - 1) ≡ right_end x o
-right-end-is x none h = refl
-right-end-is x (some c) h = rw (ne_eqb c 255 (λ e. omega arith))
-
-or_beyond : (x : ℕ) (o : Option ℕ) → x < 255 → Beyond x o → x < or_else 255 o
-or_beyond x none h k = h
-or_beyond x (some c) h k = k
-
--- box p of n, at row r and column x, with its neighbours as the code has them
-module _ (n p : ℕ) (rows cols : List ℕ) (z : Boxes n rows cols) (hp : p < n) where
-  abbrev r : ℕ
-  r = at rows p
-
-  abbrev x : ℕ
-  x = at cols p
-
-  abbrev right : Option ℕ
-  right = right_of (take n rows) (take n cols) r x
-
-  here : x < 144
-  here = z.column p hp
-
-  beyond : Beyond x right
-  beyond = right-beyond r x (take n rows) (take n cols)
-
-  under : Under 255 right
-  under =
-      right-under r x 255 (take n rows) (take n cols)
-      (λ k g. let m : k < n = omega (arith, length-take n cols) in rw (get_or-take n cols k 0 m) (omega (arith, z.column k m)))
-
-  module _ (low next : ℕ) (el : low ≡ left_end (take n rows) (take n cols) r x) (en : next ≡ or_else 255 right) where
-    pub next-beyond : x < next
-    next-beyond = rw en (or_beyond x right (omega (arith, here)) beyond)
-
-    module _ (high : ℕ) (eh : high ≡ cond (eqb next 255) x (next - 1)) where
-      high_is : high ≡ right_end x right
-      high_is = eh ∙ rw en (right-end-is x right under)
-
-      pub low-high : low ≤ high
-      low-high = omega (arith, el, high_is, left-most r x (take n rows) (take n cols), end-least r x right beyond)
-
-      pub average-is : (v w : ℕ) → v ≡ clamp low high w → set cols p v ≡ average_to (take n rows) p w (take n cols) ++ drop n cols
-      average-is v w ev =
-          let fr : at (take n rows) p ≡ r = get_or-take n rows p 0 hp in
-          let fx : at (take n cols) p ≡ x = get_or-take n cols p 0 hp in
-          set_first cols n p v hp ∙ rw (fr, fx, ← el, ← high_is) (ap (λ (y : ℕ). set (take n cols) p y ++ drop n cols) ev)
+-- they are below b, if all columns are
+pub columns-below : (cols nodes : List ℕ) (b : ℕ) → 0 < b → Inside (length cols) nodes → Inside b cols → largest (columns_of cols nodes) < b
+columns-below cols [] b z i j = z
+columns-below cols (q ∷ nodes) b z i j =
+    let h : at cols q < b = j.below q (i.below 0 (omega arith)) in
+    omega (arith, columns-below cols nodes b z (record { below = λ k l. i.below (suc k) (omega arith) }) j)

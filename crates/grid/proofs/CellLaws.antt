@@ -5,7 +5,8 @@ use native.Mathlib.Omega.{arith}
 use mathlib.Core.Path.{◌≡◌, refl, ap, sym, ◌∙◌, subst}
 use mathlib.Core.Logic.{◌⊎◌, inl, inr, ⊎_elim}
 use mathlib.Core.List.{List, []}
-use lib.ListN.{length, get_or, set, replicate, length-set, length-replicate, get_or-replicate}
+use lib.ListN.{length, get_or, take, set, replicate, length-set, length-replicate, get_or-replicate}
+use Rattle.std.proofs.lemmas.List.{get_or-take, length-take-le}
 use lib.Seq.{get_or-set_same, get_or-set_other}
 use borrow.Author.Tests.{le-leb, lt-ltb}
 use Rattle.laws.proofs.Tests.{same?}
@@ -137,3 +138,15 @@ module _ (s : SheetRecord) (a : Apart s) where
 
     pub empty-cell : ((k : ℕ) → k < s.count → Named s.boxes k r c → ⊥) → cell_at (cells_in s) r c ≡ 255
     empty-cell n = ⊎_elim (λ w. w.0) (λ w. absurd (n (cell_at (cells_in s) r c) w.0 w.1)) cell-shows
+
+-- a step looks at its own box
+cells-front : (bs : List BoxRecord) (n m : ℕ) → m ≤ n → each no_cells (placed (take n bs)) m ≡ each no_cells (placed bs) m
+unfolding each
+cells-front bs n zero h = refl
+cells-front bs n (suc m) h = rw (get_or-take n bs m no_box (omega arith)) (ap (placed bs m) (cells-front bs n m (omega arith)))
+
+-- the boxes of a sheet, placed
+pub cells-placed : (s : SheetRecord) → s.count ≤ 48 → length s.boxes ≡ 48 →
+    each no_cells (placed (take s.count s.boxes)) (length (take s.count s.boxes)) ≡ cells_in s
+unfolding cells_in
+cells-placed s h l = rw (length-take-le s.count s.boxes (omega arith), le-leb s.count 48 h) (cells-front s.boxes s.count s.count (omega arith))

@@ -13,6 +13,7 @@ use Rattle.order.specs.Chains.{columns as first_columns}
 use Rattle.grid.specs.Heights.{heights}
 use Rattle.grid.specs.Columns.{first_moves, fold_from, average, columns}
 use Rattle.grid.specs.RenderGrid.{Sheet, sheet_of, sheet}
+use Rattle.refusals.specs.declared.Refusal.TheVariants.{TooFar, NotThere}
 use Rattle.grid.specs.Sheeted.{ready, refusal, within, fitted, drawn, sheet_of_dag, sheeted}
 use Rattle.grid.specs.Labelled.{refusal as unlabelled, label_on, labelled}
 
@@ -34,11 +35,11 @@ unfolding each shape_of first_columns heights first_moves fold_from average colu
 without_nodes = refl
 
 -- that sheet, or 14 by the origin
-pub no_box : (w : Setting) (x y : ℕ) → sheeted w [] x y ≡ cond (within x 256 && within y 256) (ready unboxed) (refusal 14 0)
+pub no_box : (w : Setting) (x y : ℕ) → sheeted w [] x y ≡ cond (within x 256 && within y 256) (ready unboxed) (refusal TooFar)
 unfolding sheeted
 no_box w x y = ap (drawn x y) (no_node w) ∙ ap (fitted x y) without_nodes
 
 -- no label is there: 15, after 14
-pub no_label : (w : Setting) (x y k i : ℕ) → labelled w [] x y k i ≡ cond (within x 256 && within y 256) (unlabelled 15 0) (unlabelled 14 0)
+pub no_label : (w : Setting) (x y k i : ℕ) → labelled w [] x y k i ≡ cond (within x 256 && within y 256) (unlabelled NotThere) (unlabelled TooFar)
 unfolding labelled
-no_label w x y k i = ap (label_on k i) (no_box w x y) ∙ pick-through (label_on k i) (within x 256 && within y 256) (ready unboxed) (refusal 14 0)
+no_label w x y k i = ap (label_on k i) (no_box w x y) ∙ pick-through (label_on k i) (within x 256 && within y 256) (ready unboxed) (refusal TooFar)

@@ -1,41 +1,19 @@
 -- What the loops of a fold need: each definition at one box, one row or one pair more.
 -- Assumes nothing.
-use Prim.Native.Nat.{ℕ, zero, suc, ◌+◌, ◌-◌, ◌*◌, ◌≤◌, ◌<◌, max}
+use Prim.Native.Nat.{ℕ, zero, suc, ◌+◌, ◌*◌, ◌≤◌, ◌<◌}
 use native.Mathlib.Omega.{arith}
 use native.Mathlib.Nat.{le_of_suc-le-suc, not-suc-le-zero}
 use native.Mathlib.Numerals.{add-one}
 use mathlib.Core.Path.{◌≡◌, refl, ap, sym, ◌∙◌}
-use mathlib.Core.Bool.{Bool, true, false, ◌&&◌, ◌||◌}
-use mathlib.Core.List.{List, [], ◌∷◌, ◌++◌, map, append_assoc, append-nil}
+use mathlib.Core.Bool.{Bool, ◌&&◌, ◌||◌}
+use mathlib.Core.List.{List, [], ◌∷◌, ◌++◌, map, append_assoc}
 use lib.Dec.{eqb}
-use lib.ListN.{length, set, take, drop, replicate, length-take, length-set, drop_of_length-le}
+use lib.ListN.{length, set, take, drop, replicate, length-set}
 use lib.Seq.{get_or-take, take-suc-set}
-use borrow.Author.Tests.{ne_eqb}
-use Rattle.laws.proofs.Tests.{and_false, or_false, or_assoc}
-use Rattle.laws.proofs.Lists.{take-replicate}
-use Rattle.grid.specs.Lists.{largest}
+use Rattle.laws.proofs.Tests.{or_false, or_assoc}
 use Rattle.grid.specs.Columns.{at, taken, extra, new_columns, pairs_from, table, fold_from}
 use Rattle.grid.specs.code.Arrays.{table_to, next_new}
-use Rattle.grid.proofs.ListLaws.{at-largest, largest-below}
-use Rattle.grid.proofs.ColumnLaws.{taken_at}
-
--- the largest from j on, of the first n
-largest-more : (xs : List ℕ) (n j : ℕ) → j < n → largest (drop j (take n xs)) ≡ max (at xs j) (largest (drop (suc j) (take n xs)))
-largest-more xs zero j h = absurd (not-suc-le-zero h)
-largest-more [] (suc n) zero h = refl
-largest-more [] (suc n) (suc j) h = refl
-largest-more (x ∷ xs) (suc n) zero h = refl
-largest-more (x ∷ xs) (suc n) (suc j) h = largest-more xs n j (le_of_suc-le-suc h)
-
--- a loop that counts k down from n
-module _ (xs : List ℕ) (n : ℕ) where
-  pub largest-end : 0 ≡ largest (drop n (take n xs))
-  largest-end = let m : length (take n xs) ≤ n = omega (arith, length-take n xs) in sym (ap largest (drop_of_length-le (take n xs) m))
-
-  pub largest-down : (k : ℕ) → 0 < k → k ≤ n → largest (drop (k - 1) (take n xs)) ≡ max (at xs (k - 1)) (largest (drop k (take n xs)))
-  largest-down k z h =
-      let e : suc (k - 1) ≡ k = omega arith in
-      largest-more xs n (k - 1) (omega arith) ∙ ap (λ (i : ℕ). max (at xs (k - 1)) (largest (drop i (take n xs)))) e
+use Rattle.grid.proofs.ListLaws.{at-largest}
 
 -- one box more
 pub taken_more : (rows cols : List ℕ) (k r x : ℕ) → k < length rows → k < length cols →
@@ -46,18 +24,6 @@ taken_more (y ∷ rows) (c ∷ cols) zero r x h l = or_false (eqb y r && eqb c x
 taken_more (y ∷ rows) (c ∷ cols) (suc k) r x h l =
     ap (λ (b : Bool). (eqb y r && eqb c x) || b) (taken_more rows cols k r x (le_of_suc-le-suc h) (le_of_suc-le-suc l))
     ∙ or_assoc (eqb y r && eqb c x) (taken (take k rows) (take k cols) r x) (eqb (at rows k) r && eqb (at cols k) x)
-
--- box k is the first that has row r and column x, or is not
-module _ (rows cols : List ℕ) (k r x : ℕ) (h : k < length rows) (l : k < length cols) (e : taken (take k rows) (take k cols) r x ≡ false) where
-  pub other_row : (at rows k ≡ r → ⊥) → taken (take (k + 1) rows) (take (k + 1) cols) r x ≡ false
-  other_row o = rw (add-one k, taken_more rows cols k r x h l, e, ne_eqb (at rows k) r o)
-
-  pub other-column : eqb (at cols k) x ≡ false → taken (take (k + 1) rows) (take (k + 1) cols) r x ≡ false
-  other-column o = rw (add-one k, taken_more rows cols k r x h l, e, o) (and_false (eqb (at rows k) r))
-
-pub taken-there : (rows cols : List ℕ) (n k r x : ℕ) → n ≤ length rows → n ≤ length cols → k < n → at rows k ≡ r → at cols k ≡ x → true ≡ taken (take n rows) (take n cols) r x
-taken-there rows cols n k r x lr lc h e f =
-    sym (taken_at (take n rows) (take n cols) k r x (omega (arith, length-take n rows)) (omega (arith, length-take n cols)) (get_or-take n rows k 0 h ∙ e) (get_or-take n cols k 0 h ∙ f))
 
 -- one pair more
 module _ (more : ℕ → ℕ) where
@@ -104,11 +70,6 @@ next-next more start p a m e f =
     let z : next_new more (p + 1) start start ≡ next_new more (suc p) start start = ap (λ (y : ℕ). next_new more y start start) (add-one p) in
     omega (arith, next_more more p start start, z)
 
-pub table_none : (start : ℕ) (more : ℕ → ℕ) → start ≤ 1 → take (start + 0) (replicate 146 0) ≡ table_to start 0 more
-table_none start more h =
-    let z : start + 0 ≡ start = omega arith in
-    rw z (take-replicate start 146 0 (omega arith) ∙ sym (append-nil (replicate start 0)))
-
 -- the first k columns went by the table: the next one, and its store
 pub renamed-at : (f : ℕ → ℕ) (cols : List ℕ) (k : ℕ) → at (map f (take k cols) ++ drop k cols) k ≡ at cols k
 renamed-at f [] zero = refl
@@ -139,7 +100,3 @@ fold_is rows cols start pairs l h e f =
     (λ k g.
     sym (get_or-take (start + 2 * pairs) l (at cols k) 0 (omega (arith, at-largest cols k g)))
     ∙ ap (λ (t : List ℕ). at t (at cols k)) (f ∙ ap (λ (q : ℕ). table_to start q (extra rows cols)) e))
-
--- the largest of the first n
-pub first_below : (xs : List ℕ) (n b : ℕ) → 0 < b → ((k : ℕ) → k < n → at xs k < b) → largest (take n xs) < b
-first_below xs n b z h = largest-below (take n xs) b z (λ k g. let m : k < n = omega (arith, length-take n xs) in rw (get_or-take n xs k 0 m) (h k m))

@@ -19,13 +19,14 @@ use Rattle.graph.specs.Joining.{leads_of}
 use Rattle.graph.specs.Graphed.{Dag, ready as cut, graphed, leads_in}
 use Rattle.graph.specs.Laws.{texts_at, Begins, Laws}
 use Rattle.graph.proofs.AimLaws.{all_in}
-use Rattle.chart.specs.Read.{numbers_of}
 use Rattle.graph.proofs.Gathers.{graph-laws, board-walks}
 use Rattle.graph.proofs.EndsLaws.{shape-long}
 use Rattle.order.specs.Chains.{columns as first_columns}
 use Rattle.grid.specs.declared.BoxRecord.{BoxRecord}
 use Rattle.grid.specs.declared.SheetRecord.{SheetRecord}
-use Rattle.grid.specs.declared.Outcome.{Outcome}
+use Rattle.std.specs.Prelude.{Result}
+use Rattle.refusals.specs.Refusals.{numbers_in}
+use Rattle.refusals.specs.declared.Refusal.{Refusal}
 use Rattle.grid.specs.Lists.{largest}
 use Rattle.grid.specs.Heights.{heights}
 use Rattle.grid.specs.Columns.{at, columns}
@@ -34,7 +35,7 @@ use Rattle.grid.specs.RenderNode.{Text, text_length, line_length, end_width, tex
 use Rattle.grid.specs.RenderGrid.{Box, Sheet, begins, text_moved, widths, tallnesses, box_of, sheet_of, sheet}
 use Rattle.grid.specs.Record.{boxes_of, sound_of}
 use Rattle.grid.specs.Curves.{no_outputs, box_record, record_of}
-use Rattle.grid.specs.Sheeted.{ready, sheet_of_dag, sheeted, outcome_of}
+use Rattle.grid.specs.Sheeted.{ready, sheet_of_dag, sheeted, answer_of}
 use Rattle.grid.proofs.SheetTheorem.{edge_length}
 use Rattle.grid.specs.BoxTheorem.{BoxTheorem}
 use Rattle.grid.specs.LaidOut.{written_lines, labels_for, lines_in, LaidOut, shape_cut, IsSheet}
@@ -277,12 +278,13 @@ module _ (v : Setting) (s : List ℕ) (x y : ℕ) (sh : Sheet) (e : sheeted v s 
       }
 
 -- what `sheet` promises
-pub is-sheet : (v : Setting) (s : List ℕ) (x y : ℕ) (r : Outcome) → Made v s x y r → IsSheet v s x y r
+pub is-sheet : (v : Setting) (s : List ℕ) (x y : ℕ) (r : Result SheetRecord Refusal) → Made v s x y r → IsSheet v s x y r
 is-sheet v s x y r m =
     record {
       whole = m.whole;
-      refused = λ a b e. ap (λ (u : Outcome). numbers_of u.answer) (m.whole ∙ ap (outcome_of x y) e);
-      laid = λ q. let o : Own v s x y r.sheet = own v s x y r m.whole q in laid-sheet v s x y o.sheet o.laid r.sheet o.is (λ d e. m.boxes d e q);
-      at_origin = λ d e p q. ap (λ (u : Outcome). u.answer) m.whole ∙ rw (p, q, never_14 v s d e);
+      refused = λ why e. m.whole ∙ ap (answer_of x y) e;
+      numbers = λ why e. ap numbers_in (m.whole ∙ ap (answer_of x y) e);
+      laid = λ sheet q. let o : Own v s x y sheet = own v s x y sheet (sym m.whole ∙ q) in laid-sheet v s x y o.sheet o.laid sheet o.is (λ d e. m.boxes d e sheet q);
+      at_origin = λ d e p q. (record_of (sheet_of_dag d) x y, m.whole ∙ rw (p, q, never_14 v s d e));
       walks = λ ps e. record { cutting = board-walks ps; heights = depth-enough (shape_cut ps); rows = λ p l. reached-rows (shape_cut ps) p l };
     }

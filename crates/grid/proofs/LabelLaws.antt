@@ -1,87 +1,49 @@
 -- Laws of the labels.
 -- Assumes nothing.
-use Prim.Native.Nat.{ℕ, zero, suc, ◌+◌, ◌-◌, ◌*◌, ◌/◌, max, ◌≤◌, ◌<◌}
+use Prim.Native.Nat.{ℕ, zero, suc, ◌+◌, ◌-◌, ◌/◌, ◌≤◌, ◌<◌}
 use native.Mathlib.Omega.{arith}
 use mathlib.Core.Path.{◌≡◌, refl, ap, sym, ◌∙◌}
-use mathlib.Core.Bool.{Bool, true, false, cond}
+use mathlib.Core.Bool.{Bool, true, false}
 use mathlib.Core.List.{List, [], ◌∷◌, ◌++◌, map, append_assoc}
 use lib.Dec.{ltb}
 use lib.ListN.{length, get_or, get_or-eq_default}
-use borrow.Author.Tests.{ne_eqb}
 use native.Mathlib.Nat.{zero-add}
 use Rattle.laws.specs.Lists.{tabulate, padded}
 use Rattle.laws.proofs.Lists.{length-tabulate, get_d_tabulate, map-tabulate}
 use Rattle.chart.specs.code.Filled.{owned_lines, lines_of as texts_of'}
+use Rattle.graph.specs.declared.Name.TheVariants.{Nothing}
 use Rattle.graph.specs.declared.Tables.{Tables}
-use Rattle.graph.specs.Graph.{Line, given, number, invalid, Edge, Node, Graph, node_at}
-use Rattle.graph.specs.code.Tables.{owned, items_of, held_line, number_line, graph_of}
-use Rattle.grid.specs.declared.label.Seek.{Seek}
+use Rattle.graph.specs.Graph.{Line, given, Edge, Node, Graph, node_at}
+use Rattle.graph.specs.code.Tables.{owned, items_of, name_line, graph_of}
+use Rattle.grid.specs.declared.LabelPlace.{LabelPlace}
+use Rattle.std.specs.Prelude.{Some, None, Result, Ok, Err}
+use Rattle.std.specs.Result.{result_ok}
 use Rattle.grid.specs.declared.render_node.RenderNode.{RenderNode}
-use Rattle.grid.specs.RenderNode.{Text, end_texts, text_if, line_texts, end_width, text_length, line_length, drawn, source_gap, sink_gap, first_x, input_y, output_y, center_y, inner_width, center_width}
+use Rattle.grid.specs.RenderNode.{Text, end_texts, text_if, line_texts, end_width, text_length, drawn, source_gap, sink_gap, first_x, input_y, output_y, center_y, inner_width, center_width}
 use Rattle.grid.specs.Record.{no_box}
 use Rattle.grid.specs.RenderGrid.{text_moved, box_of, sheet_of}
 use Rattle.grid.specs.Curves.{no_outputs, box_record, record_of}
 use Rattle.grid.specs.declared.BoxRecord.{BoxRecord}
 use Rattle.grid.proofs.Arrays.{filled_at}
-use Rattle.grid.specs.Labels.{no_label, place_for, place_of, label_at, label_of}
-use Rattle.grid.specs.code.Sited.{fixed_number, not_here, seek, node_label}
-use Rattle.grid.specs.code.Rendered.{center_of, render_of}
+use Rattle.grid.specs.Labels.{label_at, label_of}
+use Rattle.grid.specs.code.Sited.{seek, node_label}
+use Rattle.grid.specs.code.Rendered.{render_of}
 use Rattle.grid.proofs.NodeLaws.{node-is}
 
-pub seek-none : (i : ℕ) → seek [] i ≡ not_here i
-seek-none i = let e : i - 0 ≡ i = omega arith in rw e
-
-pub seek-first : (t : Text) (ts : List Text) (i : ℕ) → i ≡ 0 → seek (t ∷ ts) i ≡ record { place = place_of t; left = 0 }
-seek-first t ts i z = let e : 0 - suc (length ts) ≡ 0 = omega arith in rw (z, e)
-
-pub seek-next : (t : Text) (ts : List Text) (i : ℕ) → (i ≡ 0 → ⊥) → seek (t ∷ ts) i ≡ seek ts (i - 1)
-seek-next t ts zero n = absurd (n refl)
-seek-next t ts (suc i) n =
-    let e : suc i - 1 ≡ i = omega arith in
-    let d : suc i - suc (length ts) ≡ i - length ts = omega arith in
-    rw (e, d)
-
--- the label of the line that is held by the number m
-abbrev pub held_text : ℕ → ℕ → ℕ → Text
-held_text x wy m = record { x = x; y = wy + 512 - 192; size = 464; width = 256 * line_length (held_line m); line = held_line m }
-
-pub held_place : (x wy m : ℕ) → (m ≡ 512 → ⊥) →
-    record { found = true; x = x; y = wy + 512 - 192; size = 464; width = 256 * (center_of (number_line m)).longest; fixed = true; at = 0; len = 0; number = fixed_number m } ≡ place_of (held_text x wy m)
-held_place x wy m h = rw (ne_eqb m 512 h) (go (ltb m 256))
-  where
-    go : (b : Bool) →
-        record {
-          found = true;
-          x = x;
-          y = wy + 512 - 192;
-          size = 464;
-          width = 256 * max (line_length (cond b (number m) (invalid (m - 256)))) 0;
-          fixed = true;
-          at = 0;
-          len = 0;
-          number = cond b m (m - 256 + 31);
-        }
-        ≡ place_for x (wy + 512 - 192) 464 (256 * line_length (cond b (number m) (invalid (m - 256)))) (cond b (number m) (invalid (m - 256)))
-    go true = let z : max (line_length (number m)) 0 ≡ line_length (number m) = omega arith in rw z
-    go false = let z : max (line_length (invalid (m - 256))) 0 ≡ line_length (invalid (m - 256)) = omega arith in rw z
-
 -- ---- one list after another
-is_found : (x y size width : ℕ) (l : Line) → (place_for x y size width l).found ≡ true
-is_found x y size width (given p) = refl
-is_found x y size width (number q) = refl
-is_found x y size width (invalid t) = refl
+abbrev onward : Result LabelPlace ℕ → (ℕ → Result LabelPlace ℕ) → Result LabelPlace ℕ
+onward (Ok p) next = Ok p
+onward (Err left) next = next left
 
-pub join-found : (a b : List Text) (i : ℕ) → (label_at a i).found ≡ true → label_at (a ++ b) i ≡ label_at a i
-join-found [] b i e = let z : ◌≡◌ {A = ℕ} 0 1 = cc in absurd (omega arith)
-join-found (t ∷ a) b zero e = refl
-join-found (t ∷ a) b (suc i) e = join-found a b i e
+seek-at : (ts : List Text) (i : ℕ) → label_at ts i ≡ result_ok (seek ts i)
+seek-at [] i = refl
+seek-at (t ∷ ts) zero = refl
+seek-at (t ∷ ts) (suc i) = seek-at ts i
 
-pub join-left : (a b : List Text) (i : ℕ) → (label_at a i).found ≡ false → label_at (a ++ b) i ≡ label_at b (i - length a)
-join-left [] b i e = let z : i ≡ i - 0 = omega arith in ap (label_at b) z
-join-left (t ∷ a) b zero e = let f = is_found t.x t.y t.size t.width t.line in let z : ◌≡◌ {A = ℕ} 0 1 = cc in absurd (omega arith)
-join-left (t ∷ a) b (suc i) e =
-    let z : i - length a ≡ suc i - suc (length a) = omega arith in
-    join-left a b i e ∙ ap (label_at b) z
+seek-join : (a b : List Text) (i : ℕ) → seek (a ++ b) i ≡ onward (seek a i) (seek b)
+seek-join [] b i = refl
+seek-join (t ∷ a) b zero = refl
+seek-join (t ∷ a) b (suc i) = seek-join a b i
 
 -- ---- texts that are moved
 module _ (dx dy : ℕ) where
@@ -137,7 +99,7 @@ module _ (n : Node) (x y : ℕ) where
       )
 
 -- the label that the code looks for in the three parts, one after the other
-module _ (g : Tables) (p : ℕ) (h : p < g.n) (x y i : ℕ) (v : RenderNode) (is : v ≡ render_of (node_at (graph_of g) p)) (first : Seek)
+module _ (g : Tables) (p : ℕ) (h : p < g.n) (x y i : ℕ) (v : RenderNode) (is : v ≡ render_of (node_at (graph_of g) p)) (first : Result LabelPlace ℕ)
     (is-first : first ≡ seek (end_texts v.inputs.gap (v.inputs.x + x) (v.inputs.y + 256 - 48 + y) (owned p (items_of g.sources))) i) where
   abbrev n : Node
   n = node_at (graph_of g) p
@@ -145,7 +107,7 @@ module _ (g : Tables) (p : ℕ) (h : p < g.n) (x y i : ℕ) (v : RenderNode) (is
   sources-are : n.sources ≡ owned p (items_of g.sources)
   sources-are = ap (λ (v : Node). v.sources) (node-is g p h)
 
-  lines_are : n.lines ≡ map given (owned_lines p (texts_of' g.lines)) ++ number_line (get_or g.names p 0)
+  lines_are : n.lines ≡ map given (owned_lines p (texts_of' g.lines)) ++ name_line (get_or g.names p Nothing)
   lines_are = ap (λ (v : Node). v.lines) (node-is g p h)
 
   sinks-are : n.sinks ≡ owned p (items_of g.sinks)
@@ -155,38 +117,37 @@ module _ (g : Tables) (p : ℕ) (h : p < g.n) (x y i : ℕ) (v : RenderNode) (is
   unfolding render_of
   first-is = is-first ∙ rw (is, ← sources-are)
 
-  pub label_first : first.place.found ≡ true → first.place ≡ node_label n x y i
-  label_first f =
-      ap (λ (s : Seek). s.place) first-is
-      ∙ sym (ap (λ (l : List Text). label_at l i) (parts n x y) ∙ join-found (top n x y) (mid n x y ++ low n x y) i (sym (ap (λ (s : Seek). s.place.found) first-is) ∙ f))
+  -- the whole search
+  by_first : node_label n x y i ≡ result_ok (onward first (seek (mid n x y ++ low n x y)))
+  by_first =
+      ap (λ (l : List Text). label_at l i) (parts n x y) ∙ seek-at (top n x y ++ (mid n x y ++ low n x y)) i
+      ∙ ap result_ok (seek-join (top n x y) (mid n x y ++ low n x y) i)
+      ∙ ap (λ (r : Result LabelPlace ℕ). result_ok (onward r (seek (mid n x y ++ low n x y)))) (sym first-is)
 
-  module _ (not_first : first.place.found ≡ false) (second : Seek)
-      (is-second : second ≡ seek (line_texts (v.cx + x) (v.cy + y) (map given (owned_lines p (texts_of' g.lines)) ++ number_line (get_or g.names p 0))) first.left) where
-    abbrev j : ℕ
-    j = i - length (top n x y)
+  pub label_first : (q : LabelPlace) → first ≡ Ok q → Some q ≡ node_label n x y i
+  label_first q e = sym (by_first ∙ rw e)
 
-    after_first : node_label n x y i ≡ label_at (mid n x y ++ low n x y) j
-    after_first =
-        ap (λ (l : List Text). label_at l i) (parts n x y)
-        ∙ join-left (top n x y) (mid n x y ++ low n x y) i (sym (ap (λ (s : Seek). s.place.found) first-is) ∙ not_first)
-
+  module _ (j : ℕ) (passed : first ≡ Err j) (second : Result LabelPlace ℕ)
+      (is-second : second ≡ seek (line_texts (v.cx + x) (v.cy + y) (map given (owned_lines p (texts_of' g.lines)) ++ name_line (get_or g.names p Nothing))) j) where
     second_is : second ≡ seek (mid n x y) j
     unfolding render_of
-    second_is = is-second ∙ rw (is, ← lines_are, ap (λ (s : Seek). s.left) first-is)
+    second_is = is-second ∙ rw (is, ← lines_are)
 
-    pub label_second : second.place.found ≡ true → second.place ≡ node_label n x y i
-    label_second f =
-        ap (λ (s : Seek). s.place) second_is
-        ∙ sym (after_first ∙ join-found (mid n x y) (low n x y) j (sym (ap (λ (s : Seek). s.place.found) second_is) ∙ f))
+    by-second : node_label n x y i ≡ result_ok (onward second (seek (low n x y)))
+    by-second =
+        by_first ∙ rw passed (ap result_ok (seek-join (mid n x y) (low n x y) j))
+        ∙ ap (λ (r : Result LabelPlace ℕ). result_ok (onward r (seek (low n x y)))) (sym second_is)
 
-    pub label_third : second.place.found ≡ false → (third : Seek) →
-        third ≡ seek (end_texts v.outputs.gap (v.outputs.x + x) (v.outputs.y - 48 + y) (owned p (items_of g.sinks))) second.left →
-        third.place ≡ node_label n x y i
+    pub label_second : (q : LabelPlace) → second ≡ Ok q → Some q ≡ node_label n x y i
+    label_second q e = sym (by-second ∙ rw e)
+
+    pub label_third : (k : ℕ) → second ≡ Err k → (third : Result LabelPlace ℕ) →
+        third ≡ seek (end_texts v.outputs.gap (v.outputs.x + x) (v.outputs.y - 48 + y) (owned p (items_of g.sinks))) k →
+        result_ok third ≡ node_label n x y i
     unfolding render_of
-    label_third f third is-third =
-        let e : third ≡ seek (low n x y) (j - length (mid n x y)) = is-third ∙ rw (is, ← sinks-are, ap (λ (s : Seek). s.left) second_is) in
-        ap (λ (s : Seek). s.place) e
-        ∙ sym (after_first ∙ join-left (mid n x y) (low n x y) j (sym (ap (λ (s : Seek). s.place.found) second_is) ∙ f))
+    label_third k e third is-third =
+        let z : third ≡ seek (low n x y) k = is-third ∙ rw (is, ← sinks-are) in
+        ap result_ok z ∙ sym (by-second ∙ rw e)
 
 -- the label of a box of the sheet, by the box's place in the record
 pub label_sheet : (g : Graph) (cuts : ℕ) (cols rows : List ℕ) (x y : ℕ) → length g ≤ 48 → (k i : ℕ) → k < length g →
@@ -202,7 +163,7 @@ label_sheet g cuts cols rows x y few k i h =
     rw (b, d)
 
 -- past the boxes there is none
-pub label_past : (g : Graph) (cuts : ℕ) (cols rows : List ℕ) (k i : ℕ) → length g ≤ k → label_of (sheet_of g cuts cols rows) k i ≡ no_label
+pub label_past : (g : Graph) (cuts : ℕ) (cols rows : List ℕ) (k i : ℕ) → length g ≤ k → label_of (sheet_of g cuts cols rows) k i ≡ None
 unfolding sheet_of
 label_past g cuts cols rows k i h =
     let l : length (tabulate (box_of g cols rows) 0 (length g)) ≤ k = omega (arith, length-tabulate (box_of g cols rows) 0 (length g)) in

@@ -13,16 +13,15 @@ use borrow.Author.Tests.{ltb-true, ltb-false, lt-ltb, le-ltb, leb-true}
 use native.Mathlib.Nat.{zero-add}
 use Rattle.laws.specs.Lists.{All, tabulate}
 use Rattle.laws.proofs.Lists.{all_join, all_made, get_d_tabulate, length-tabulate}
-use Rattle.chart.specs.declared.Answer.{Answer}
-use Rattle.chart.specs.declared.Answer.TheVariants.{Ready, Refused}
+use Rattle.refusals.specs.declared.Refusal.{Refusal}
+use Rattle.refusals.specs.declared.Refusal.TheVariants.{TooFar, NotThere}
 use Rattle.chart.specs.declared.Setting.{Setting}
 use Rattle.chart.specs.Chart.{Part, End, Board}
 use Rattle.chart.specs.Chart.{Node as GivenNode}
-use Rattle.chart.specs.Text.{Texted, empty, characters_in, ending, text_of}
+use Rattle.chart.specs.Text.{Texted, characters_in, ending, text_of}
 use Rattle.chart.specs.Accepted.{Fitting, Aimed, Formed, Accepted}
 use Rattle.chart.proofs.Accepts.{accepted}
 use Rattle.graph.specs.declared.Tables.{Tables}
-use Rattle.graph.specs.declared.Outcome.{Outcome as Graphing}
 use Rattle.graph.specs.Graph.{Line, given, number, invalid, Edge, Node, Graph, no_text, bare, unmarked, given_node, given_graph, node_at}
 use Rattle.graph.specs.Graphed.{Dag, Graphed, ready as cut, refusal as uncut, graphed, leads_in}
 use Rattle.graph.specs.Joining.{leads_of}
@@ -37,7 +36,6 @@ use Rattle.order.specs.Chains.{columns as first_columns}
 use Rattle.grid.specs.declared.BoxRecord.{BoxRecord}
 use Rattle.grid.specs.declared.SheetRecord.{SheetRecord}
 use Rattle.grid.specs.declared.LabelPlace.{LabelPlace}
-use Rattle.grid.specs.declared.Outcome.{Outcome}
 use Rattle.grid.specs.Lists.{total}
 use Rattle.grid.specs.Record.{no_box}
 use Rattle.grid.specs.Heights.{heights}
@@ -45,13 +43,13 @@ use Rattle.grid.specs.Columns.{columns}
 use Rattle.grid.specs.RenderNode.{Text, drawn, end_texts, text_if, line_texts, line_length, text_length, end_width, source_gap, sink_gap, first_x, input_y, output_y, center_y, inner_width, center_width}
 use Rattle.grid.specs.RenderGrid.{Sheet, text_moved, box_of, sheet_of, sheet}
 use Rattle.grid.specs.Curves.{no_outputs, record_of}
-use Rattle.grid.specs.code.Rendered.{Seated}
-use Rattle.grid.specs.Sheeted.{Sheeted, ready, refusal, within, drawn as drawn_at, sheet_of_dag, sheeted, outcome_of}
+use Rattle.grid.specs.Sheeted.{Sheeted, ready, refusal, within, drawn as drawn_at, sheet_of_dag, sheeted, answer_of}
 use Rattle.grid.specs.BoxTheorem.{BoxTheorem}
 use Rattle.grid.proofs.Sheets.{Made}
-use Rattle.grid.specs.Labels.{no_label, character_width, place_of, label_at, label_of}
+use Rattle.grid.specs.Labels.{character_width, place_of, label_at, label_of}
 use Rattle.grid.specs.code.Sited.{node_label}
-use Rattle.grid.specs.Labelled.{ready as labels, refusal as unlabelled, label_in, label_on, labelled, label_outcome_of}
+use Rattle.std.specs.Prelude.{Option, Some, None, Result, Ok, Err}
+use Rattle.grid.specs.Labelled.{ready as labels, ready_or_15, label_in, label_on, labelled, label_place_of}
 use Rattle.grid.proofs.LabelLaws.{label_sheet, label_past}
 use Rattle.grid.proofs.TextLaws.{Blank, blank}
 
@@ -62,55 +60,38 @@ record Drawing (v : Setting) (s : List ℕ) (x y : ℕ) (d : Dag) : Type 0 where
   wide : x + (sheet_of_dag d).width ≤ 8388608
   high : y + (sheet_of_dag d).height ≤ 8388608
 
-fits : (v : Setting) (s : List ℕ) (x y : ℕ) (d : Dag) → graphed v s ≡ cut d → (a b : Bool) → within x (sheet_of_dag d).width ≡ a → within y (sheet_of_dag d).height ≡ b → (outcome_of x y (sheeted v s x y)).answer ≡ Ready → Drawing v s x y d
+fits : (v : Setting) (s : List ℕ) (x y : ℕ) (d : Dag) (r : SheetRecord) → graphed v s ≡ cut d → (a b : Bool) → within x (sheet_of_dag d).width ≡ a → within y (sheet_of_dag d).height ≡ b → answer_of x y (sheeted v s x y) ≡ Ok r → Drawing v s x y d
 unfolding sheeted
-fits v s x y d c true true e f h = record { made = rw (c, e, f); wide = leb-true (x + (sheet_of_dag d).width) 8388608 e; high = leb-true (y + (sheet_of_dag d).height) 8388608 f }
-fits v s x y d c true false e f h =
-    let g : (outcome_of x y (sheeted v s x y)).answer ≡ Refused 14 0 = rw (c, e, f) in
+fits v s x y d r c true true e f h = record { made = rw (c, e, f); wide = leb-true (x + (sheet_of_dag d).width) 8388608 e; high = leb-true (y + (sheet_of_dag d).height) 8388608 f }
+fits v s x y d r c true false e f h =
+    let g : answer_of x y (sheeted v s x y) ≡ Err TooFar = rw (c, e, f) in
     let z : ◌≡◌ {A = ℕ} 0 1 = cc in absurd (omega arith)
-fits v s x y d c false b e f h =
-    let g : (outcome_of x y (sheeted v s x y)).answer ≡ Refused 14 0 = rw (c, e) in
+fits v s x y d r c false b e f h =
+    let g : answer_of x y (sheeted v s x y) ≡ Err TooFar = rw (c, e) in
     let z : ◌≡◌ {A = ℕ} 0 1 = cc in absurd (omega arith)
 
-pub sitting : (v : Setting) (s : List ℕ) (w : Graphing) → Graphs v s w → Seated w.graph
-sitting v s w a = record { linked = a.sound.linked; line_room = a.sound.line_room }
-
-module _ (v : Setting) (s : List ℕ) (x y : ℕ) (o : Outcome) (q : Made v s x y o) (w : Graphing) (a : Graphs v s w) where
-  module _ (answered : o.answer ≡ Ready) where
-    abbrev t : Tables
-    t = w.graph
-
-    answer-is : (outcome_of x y (sheeted v s x y)).answer ≡ Ready
-    answer-is = sym (ap (λ (u : Outcome). u.answer) q.whole) ∙ answered
-
-    cut_by : (b : Answer) → w.answer ≡ b → graphed v s ≡ cut (dag_in t)
-    unfolding sheeted
-    cut_by Ready e = sym a.graphs ∙ rw e
-    cut_by (Refused n m) e =
-        let g : graphed v s ≡ uncut n m = sym a.graphs ∙ rw e in
-        let f : (outcome_of x y (sheeted v s x y)).answer ≡ Refused n m = rw g in
-        let z : ◌≡◌ {A = ℕ} 0 1 = cc in absurd (omega arith)
-
+module _ (v : Setting) (s : List ℕ) (x y : ℕ) (o : Result SheetRecord Refusal) (q : Made v s x y o) (w : Result Tables Refusal) (a : Graphs v s w) (t : Tables) (h : w ≡ Ok t) where
+  module _ (r : SheetRecord) (answered : o ≡ Ok r) where
     cut-is : graphed v s ≡ cut (dag_in t)
-    cut-is = cut_by w.answer refl
+    cut-is = sym a.graphs ∙ rw h
 
     abbrev sh : Sheet
     sh = sheet_of_dag (dag_in t)
 
     drawing : Drawing v s x y (dag_in t)
-    drawing = fits v s x y (dag_in t) cut-is (within x sh.width) (within y sh.height) refl refl answer-is
+    drawing = fits v s x y (dag_in t) r cut-is (within x sh.width) (within y sh.height) refl refl (sym q.whole ∙ answered)
 
-    sheet-is : o.sheet ≡ record_of sh x y
-    sheet-is = ap (λ (u : Outcome). u.sheet) (q.whole ∙ ap (outcome_of x y) drawing.made)
+    sheet-is : r ≡ record_of sh x y
+    sheet-is = let z : Ok r ≡ answer_of x y (ready sh) = sym answered ∙ q.whole ∙ ap (answer_of x y) drawing.made in cc
 
-    theorem : BoxTheorem (get_or s 1 0) (leads_in v s) t.cuts (graph_of t) o.sheet
-    theorem = q.boxes (dag_in t) cut-is answered
+    theorem : BoxTheorem (get_or s 1 0) (leads_in v s) t.cuts (graph_of t) r
+    theorem = q.boxes (dag_in t) cut-is r answered
 
-    width_is : o.sheet.width ≡ sh.width
+    width_is : r.width ≡ sh.width
     unfolding record_of
     width_is = ap (λ (r : SheetRecord). r.width) sheet-is
 
-    height-is : o.sheet.height ≡ sh.height
+    height-is : r.height ≡ sh.height
     unfolding record_of
     height-is = ap (λ (r : SheetRecord). r.height) sheet-is
 
@@ -118,12 +99,12 @@ module _ (v : Setting) (s : List ℕ) (x y : ℕ) (o : Outcome) (q : Made v s x 
     many = length-graph t.n (lines_of t) (items_of t.sources) (items_of t.sinks)
 
     abbrev box_at : ℕ → BoxRecord
-    box_at k = get_or o.sheet.boxes k no_box
+    box_at k = get_or r.boxes k no_box
 
     -- a box's place is small enough for the sums
     pub sited : (k : ℕ) → k < t.n → ((box_at k).x ≤ 1250000000) × ((box_at k).y ≤ 1250000000)
     sited k l =
-        let h : k < o.sheet.count = omega (arith, theorem.one_each, many) in
+        let h : k < r.count = omega (arith, theorem.one_each, many) in
         (omega (arith, theorem.right k h, width_is, drawing.wide), omega (arith, theorem.bottom k h, height-is, drawing.high))
 
     labelled-is : (k i : ℕ) → labelled v s x y k i ≡ label_in sh k i
@@ -131,28 +112,19 @@ module _ (v : Setting) (s : List ℕ) (x y : ℕ) (o : Outcome) (q : Made v s x 
     labelled-is k i = rw drawing.made
 
     module _ (k i : ℕ) where
-      found-is : (p : LabelPlace) → p ≡ label_of sh k i → p.found ≡ true → record { answer = Ready; place = p } ≡ label_outcome_of (labelled v s x y k i)
-      found-is p h f =
-          let b : (label_of sh k i).found ≡ true = sym (ap (λ (u : LabelPlace). u.found) h) ∙ f in
-          let g : label_in sh k i ≡ labels (label_of sh k i) = rw b in
-          ap (λ (u : LabelPlace). label_outcome_of (labels u)) h ∙ sym (ap label_outcome_of (labelled-is k i ∙ g))
-
-      none_is : (p : LabelPlace) → p ≡ label_of sh k i → p.found ≡ false → label_outcome_of (unlabelled 15 0) ≡ label_outcome_of (labelled v s x y k i)
-      none_is p h f =
-          let b : (label_of sh k i).found ≡ false = sym (ap (λ (u : LabelPlace). u.found) h) ∙ f in
-          let g : label_in sh k i ≡ unlabelled 15 0 = rw b in
-          sym (ap label_outcome_of (labelled-is k i ∙ g))
+      answer-by : (p : Option LabelPlace) → p ≡ label_of sh k i → label_place_of (ready_or_15 p) ≡ label_place_of (labelled v s x y k i)
+      answer-by p e = ap (λ (u : Option LabelPlace). label_place_of (ready_or_15 u)) e ∙ sym (ap label_place_of (labelled-is k i))
 
       -- no such box
-      pub place-past : t.n ≤ k → label_outcome_of (unlabelled 15 0) ≡ label_outcome_of (labelled v s x y k i)
+      pub place-past : t.n ≤ k → Err NotThere ≡ label_place_of (labelled v s x y k i)
       unfolding sheet_of_dag sheet
       place-past l =
           let g : Graph = graph_of t in
           let f : List ℕ = first_columns (shape_of g) in
-          none_is no_label (sym (label_past g t.cuts (columns (shape_of g) (heights (shape_of g)) f) (heights (shape_of g)) k i (omega (arith, many)))) refl
+          answer-by None (sym (label_past g t.cuts (columns (shape_of g) (heights (shape_of g)) f) (heights (shape_of g)) k i (omega (arith, many))))
 
       -- a box, whose node has a label i or not
-      module _ (l : k < t.n) (p : LabelPlace) (e : p ≡ node_label (node_at (graph_of t) k) (box_at k).x (box_at k).y i) where
+      module _ (l : k < t.n) (p : Option LabelPlace) (e : p ≡ node_label (node_at (graph_of t) k) (box_at k).x (box_at k).y i) where
         place_is : p ≡ label_of sh k i
         unfolding sheet_of_dag sheet
         place_is =
@@ -160,25 +132,19 @@ module _ (v : Setting) (s : List ℕ) (x y : ℕ) (o : Outcome) (q : Made v s x 
             let f : List ℕ = first_columns (shape_of g) in
             e
             ∙ ap (λ (r : SheetRecord). node_label (node_at g k) (get_or r.boxes k no_box).x (get_or r.boxes k no_box).y i) sheet-is
-            ∙ label_sheet g t.cuts (columns (shape_of g) (heights (shape_of g)) f) (heights (shape_of g)) x y (omega (arith, many, a.sound.linked.nodes)) k i (omega (arith, many))
+            ∙ label_sheet g t.cuts (columns (shape_of g) (heights (shape_of g)) f) (heights (shape_of g)) x y (omega (arith, many, (a.sound t h).linked.nodes)) k i (omega (arith, many))
 
-        pub place_found : p.found ≡ true → record { answer = Ready; place = p } ≡ label_outcome_of (labelled v s x y k i)
-        place_found = found-is p place_is
-
-        pub place_none : p.found ≡ false → label_outcome_of (unlabelled 15 0) ≡ label_outcome_of (labelled v s x y k i)
-        place_none = none_is p place_is
+        pub place_answer : label_place_of (ready_or_15 p) ≡ label_place_of (labelled v s x y k i)
+        place_answer = answer-by p place_is
 
 -- a refused sheet has no label
-pub place-refused : (v : Setting) (s : List ℕ) (x y : ℕ) (o : Outcome) → Made v s x y o → (k i n m : ℕ) → o.answer ≡ Refused n m → label_outcome_of (unlabelled n m) ≡ label_outcome_of (labelled v s x y k i)
+pub place-refused : (v : Setting) (s : List ℕ) (x y : ℕ) (o : Result SheetRecord Refusal) → Made v s x y o → (k i : ℕ) (why : Refusal) → o ≡ Err why → Err why ≡ label_place_of (labelled v s x y k i)
 unfolding labelled
-place-refused v s x y o q k i n m e = go (sheeted v s x y) (sym (ap (λ (u : Outcome). u.answer) q.whole) ∙ e)
+place-refused v s x y o q k i why e = go (sheeted v s x y) (sym q.whole ∙ e)
   where
-    go : (h : Sheeted) → (outcome_of x y h).answer ≡ Refused n m → label_outcome_of (unlabelled n m) ≡ label_outcome_of (label_on k i h)
+    go : (h : Sheeted) → answer_of x y h ≡ Err why → Err why ≡ label_place_of (label_on k i h)
     go (ready sh) f = let z : ◌≡◌ {A = ℕ} 0 1 = cc in absurd (omega arith)
-    go (refusal a b) f =
-        let f₁ : a ≡ n = cc in
-        let f₂ : b ≡ m = cc in
-        cc
+    go (refusal u) f = let z : u ≡ why = cc in rw z
 
 -- ---- where a label's text lies
 -- a text of the chart s: it lies within, has whole characters, and these are as many as its length says
@@ -189,10 +155,6 @@ pub record Whole (s : List ℕ) (at len : ℕ) : Type 0 where
 
 fitting-whole : (s : List ℕ) (p : Part) → Fitting s p → Whole s p.at p.len
 fitting-whole s p h = record { inside = h.inside; texted = h.texted; counted = h.counted }
-
-no_whole : (s : List ℕ) → Whole s 0 0
-unfolding ending
-no_whole s = record { inside = omega arith; texted = empty; counted = refl }
 
 -- a text of the chart s, or one of the 287 fixed texts
 abbrev Held : List ℕ → Line → Type 0
@@ -238,10 +200,10 @@ module _ (v : Setting) (s : List ℕ) where
         wide = rw (le-ltb (t + 31) 32 (omega (arith, h.0)), z) w;
       }
 
-  label_lies : (ts : List Text) → All Kept ts → (i : ℕ) → Lies s (label_at ts i)
-  label_lies [] a i = record { whole = λ e. no_whole s; below = λ e. let z : ◌≡◌ {A = ℕ} 0 1 = cc in absurd (omega arith); wide = refl }
-  label_lies (t ∷ ts) a zero = place-lies t.x t.y t.size t.width t.line a.0.0 a.0.1
-  label_lies (t ∷ ts) a (suc i) = label_lies ts a.1 i
+  label_lies : (ts : List Text) → All Kept ts → (i : ℕ) (p : LabelPlace) → label_at ts i ≡ Some p → Lies s p
+  label_lies [] a i p e = let z : ◌≡◌ {A = ℕ} 0 1 = cc in absurd (omega arith)
+  label_lies (t ∷ ts) a zero p e = let f : place_of t ≡ p = cc in rw f at (place-lies t.x t.y t.size t.width t.line a.0.0 a.0.1)
+  label_lies (t ∷ ts) a (suc i) p e = label_lies ts a.1 i p e
 
   if_kept : (b : Bool) (t : Text) (ts : List Text) → (b ≡ true → Kept t) → All Kept ts → All Kept (text_if b t ts)
   if_kept true t ts h a = (h refl, a)
@@ -362,7 +324,7 @@ module _ (v : Setting) (s : List ℕ) where
         omega (arith, length-tabulate (box_of d.graph cols rows) 0 (length d.graph), ltb-false k (length d.graph) e) in
         rw (get_or-eq_default (tabulate (box_of d.graph cols rows) 0 (length d.graph)) no_outputs l) tt
 
-    sheet_lies : (k i : ℕ) → Lies s (label_of (sheet_of_dag d) k i)
+    sheet_lies : (k i : ℕ) (p : LabelPlace) → label_of (sheet_of_dag d) k i ≡ Some p → Lies s p
     unfolding sheet_of_dag sheet sheet_of
     sheet_lies k i =
         let g : Graph = d.graph in
@@ -375,14 +337,14 @@ module _ (v : Setting) (s : List ℕ) where
   unfolding labelled sheeted
   labelled_lies bytes x y k i p e = go (graphed v s) refl e
     where
-      in_sheet : (sh : Sheet) → Lies s (label_of sh k i) → (b : Bool) → cond b (labels (label_of sh k i)) (unlabelled 15 0) ≡ labels p → Lies s p
-      in_sheet sh l true e = let f : label_of sh k i ≡ p = cc in rw f at l
-      in_sheet sh l false e = let z : ◌≡◌ {A = ℕ} 0 1 = cc in absurd (omega arith)
+      in_sheet : (sh : Sheet) → ((q : LabelPlace) → label_of sh k i ≡ Some q → Lies s q) → (o : Option LabelPlace) → label_of sh k i ≡ o → ready_or_15 o ≡ labels p → Lies s p
+      in_sheet sh l (Some q) f e = let g : q ≡ p = cc in rw g at (l q f)
+      in_sheet sh l None f e = let z : ◌≡◌ {A = ℕ} 0 1 = cc in absurd (omega arith)
 
-      fitting : (sh : Sheet) → Lies s (label_of sh k i) → (b : Bool) → label_on k i (cond b (ready sh) (refusal 14 0)) ≡ labels p → Lies s p
-      fitting sh l true e = in_sheet sh l (label_of sh k i).found e
+      fitting : (sh : Sheet) → ((q : LabelPlace) → label_of sh k i ≡ Some q → Lies s q) → (b : Bool) → label_on k i (cond b (ready sh) (refusal TooFar)) ≡ labels p → Lies s p
+      fitting sh l true e = in_sheet sh l (label_of sh k i) refl e
       fitting sh l false e = let z : ◌≡◌ {A = ℕ} 0 1 = cc in absurd (omega arith)
 
       go : (h : Graphed) → graphed v s ≡ h → label_on k i (drawn_at x y h) ≡ labels p → Lies s p
       go (cut d) c f = fitting (sheet_of_dag d) (sheet_lies bytes d (graph-laws v s d c) k i) (within x (sheet_of_dag d).width && within y (sheet_of_dag d).height) f
-      go (uncut a b) c f = let z : ◌≡◌ {A = ℕ} 0 1 = cc in absurd (omega arith)
+      go (uncut why) c f = let z : ◌≡◌ {A = ℕ} 0 1 = cc in absurd (omega arith)

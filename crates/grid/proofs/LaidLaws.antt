@@ -11,7 +11,11 @@ use lib.Seq.{get_or-take, length-take-le}
 use Rattle.laws.specs.Lists.{All}
 use Rattle.grid.specs.Lists.{largest}
 use Rattle.grid.specs.RenderGrid.{extent, begins}
-use Rattle.grid.specs.code.Laid.{Bounded, run_at, Movable, Low}
+use Rattle.grid.specs.declared.BoxRecord.{BoxRecord}
+use Rattle.grid.specs.declared.render_node.Run.{Run}
+use Rattle.grid.specs.declared.render_grid.Axis.{Axis}
+use Rattle.grid.specs.declared.render_grid.Axis.TheVariants.{Across, Down}
+use Rattle.grid.specs.code.Laid.{Bounded, gap_of, moved, Near, Low}
 use Rattle.grid.proofs.Arrays.{all-by}
 
 cond_le : (t : Bool) (a m : ℕ) → a ≤ m → cond t a 0 ≤ m
@@ -37,5 +41,9 @@ pub begins_le : (gap : ℕ) (places sizes : List ℕ) → gap ≤ 2048 → All (
 begins_le gap places sizes g a zero = omega arith
 begins_le gap places sizes g a (suc c) = omega (arith, begins_le gap places sizes g a c, extent_le 8389000 places sizes c a)
 
-pub run-low : (nodes xs ys cols rows : List ℕ) (from k : ℕ) → Movable nodes xs ys cols rows from k → Low (run_at nodes xs ys cols rows from k)
-run-low nodes xs ys cols rows from k m = record { first = omega (arith, m.first, m.across); gap = m.gap }
+pub moved-low : (r : Run) (b : BoxRecord) → Near r b → Low (moved r b)
+moved-low r b m = record { first = omega (arith, m.first, m.across); gap = m.gap }
+
+pub gap_most : (a : Axis) → gap_of a ≤ 2048
+gap_most Across = omega arith
+gap_most Down = omega arith

@@ -7,31 +7,19 @@ use native.Mathlib.Numerals.{add-one}
 use mathlib.Core.Path.{◌≡◌, refl, ap, sym, ◌∙◌}
 use mathlib.Core.Logic.{inl, inr}
 use mathlib.Core.List.{List, [], ◌++◌, append_assoc, append-nil}
-use lib.ListN.{length, set, take, drop, replicate, length-append, length-set, get_or-append}
+use lib.ListN.{length, set, drop, replicate, length-append, length-set, get_or-append}
 use lib.Seq.{sets, sets-eq, get_or-set_same, get_or-set_other, take-append_seam, drop-append_seam}
 use Rattle.laws.proofs.Lists.{length-tabulate, get_d_tabulate, tabulate-same, sets_append, all_join}
 use Rattle.laws.proofs.Tests.{same?}
-use Rattle.graph.specs.declared.Ends.{Ends}
+use Rattle.graph.specs.Items.{Ends}
 use Rattle.graph.specs.Shape.{incidents_at, no_incidents}
-use Rattle.graph.specs.Ends.{targets_of, ends_of, incidents_in, shape_from, Linked}
+use Rattle.graph.specs.Ends.{ends_of, incidents_in, shape_from, Linked}
 use Rattle.order.specs.Claims.{Under}
 use Rattle.order.proofs.Legs.{sum_to}
-use Rattle.order.proofs.Pushed.{targets_next, under-targets, ends-few}
+use Rattle.order.proofs.Pushed.{under-targets, ends-few}
 use Rattle.grid.specs.Columns.{at}
 use Rattle.grid.specs.code.Leads.{part, leads_at, shape_in, Led}
 use Rattle.grid.proofs.Arrays.{all-at}
-
--- of more records a node owns no fewer
-pub targets-more : (p k m : ℕ) (os ts : List ℕ) → k ≤ m → m ≤ length os → m ≤ length ts →
-    length (targets_of p (take k os) (take k ts)) ≤ length (targets_of p (take m os) (take m ts))
-targets-more p k zero os ts h a b = let e : k ≡ 0 = omega arith in rw e (omega arith)
-targets-more p k (suc m) os ts h a b =
-    elim (same? k (suc m)) [
-      | inl e ↦ rw e (omega arith)
-      | inr d ↦
-          let e = targets_next p m os ts (omega arith) (omega arith) in
-          rw (e, length-append) (omega (arith, targets-more p k m os ts (omega arith) (omega arith) (omega arith)))
-    ]
 
 -- the ends of the first p nodes, node by node, sources before sinks
 unfoldable pub ends_to : Ends → Ends → ℕ → List ℕ
@@ -129,8 +117,7 @@ module _ (n : ℕ) (s k : Ends) (x : Linked n s) (y : Linked n k) where
   ends-under (suc p) =
       all_join (λ (q : ℕ). q < n) (ends_to s k p) (ends_of s p ++ ends_of k p) (ends-under p)
       (all_join (λ (q : ℕ). q < n) (ends_of s p) (ends_of k p)
-      (under-targets n p s.count (take s.count s.owner) s.to x.node)
-      (under-targets n p k.count (take k.count k.owner) k.to y.node))
+      (under-targets n p s.count s.items x.node) (under-targets n p k.count k.items y.node))
 
   -- the table of all nodes
   module _ (bounds : List ℕ) (b : Bounds s k n bounds) where
@@ -190,7 +177,6 @@ module _ (n : ℕ) (s k : Ends) (x : Linked n s) (y : Linked n k) where
     leads-led =
         record {
           nodes = x.nodes;
-          first = b.start 0 (omega arith);
           rising = rises;
           few = omega (arith, b.start n (omega arith), ends-room n);
           node = λ i h.

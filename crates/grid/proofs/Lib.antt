@@ -11,14 +11,12 @@ pub mod SignedLaws
 pub mod WalkLaws
 pub mod WalkSteps
 pub mod LowerLaws
-pub mod MoveLaws
 pub mod RoundLaws
 pub mod SheetTheorem
 pub mod GridLaws
 pub mod Totals
 pub mod Arrays
 pub mod NodeLaws
-pub mod Noted
 pub mod PointLaws
 pub mod CurveLaws
 pub mod LaidLaws

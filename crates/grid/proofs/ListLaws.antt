@@ -1,14 +1,16 @@
 -- Laws on lists of numbers.
 -- Assumes nothing.
-use Prim.Native.Nat.{ℕ, zero, suc, ◌≤◌, ◌<◌}
+use Prim.Native.Nat.{ℕ, zero, suc, max, ◌≤◌, ◌<◌}
 use native.Mathlib.Omega.{arith}
 use native.Mathlib.Nat.{le_of_suc-le-suc, not-suc-le-zero, eq-or-lt_of_le}
-use mathlib.Core.Path.{◌≡◌, refl, ap, sym, ◌∙◌, subst}
+use mathlib.Core.Path.{◌≡◌, refl, ◌∙◌, subst}
 use mathlib.Core.Logic.{◌⊎◌, inl, inr}
 use mathlib.Core.Bool.{Bool, true, false, ◌||◌}
-use mathlib.Core.List.{List, [], ◌∷◌, ◌++◌, map}
-use lib.ListN.{length, get_or, set, take, drop, take-append-drop, get_or-eq_default}
+use mathlib.Core.List.{List, [], ◌∷◌, map}
+use lib.ListN.{length, get_or, set, get_or-eq_default}
 use lib.Seq.{get_or-set_same, get_or-set_other, set_out}
+use Rattle.std.specs.List.{fold, reduce}
+use Rattle.std.specs.Option.{unwrap_or}
 use Rattle.laws.proofs.Tests.{less?, same?}
 use Rattle.grid.specs.Lists.{largest, smallest}
 use Rattle.grid.specs.Columns.{at}
@@ -41,6 +43,15 @@ largest-below (x ∷ xs) b z h =
     let one : x < b = h 0 (omega arith) in
     omega (arith, largest-below xs b z (λ k l. h (suc k) (omega arith)))
 
+-- a chain folds from the first on
+largest-from : (a : ℕ) (xs : List ℕ) → fold max a xs ≡ max a (largest xs)
+largest-from a [] = omega arith
+largest-from a (x ∷ xs) = largest-from (max a x) xs ∙ omega arith
+
+pub largest-reduced : (xs : List ℕ) → unwrap_or (reduce max xs) 0 ≡ largest xs
+largest-reduced [] = refl
+largest-reduced (x ∷ xs) = largest-from x xs
+
 pub smallest_le : (m : ℕ) (xs : List ℕ) → smallest m xs ≤ m
 smallest_le m [] = omega arith
 smallest_le m (x ∷ xs) = omega (arith, smallest_le m xs)
@@ -57,31 +68,6 @@ everywhere xs n b z l h q = go (less? q n)
     go : (q < n) ⊎ (n ≤ q) → at xs q < b
     go (inl k) = h q k
     go (inr k) = let e : at xs q ≡ 0 = get_or-eq_default xs 0 (omega arith) in omega arith
-
--- ---- the first n of an array, and the rest
--- a store within the first n
-pub set_first : (xs : List ℕ) (n p v : ℕ) → p < n → set xs p v ≡ set (take n xs) p v ++ drop n xs
-set_first xs zero p v h = absurd (not-suc-le-zero h)
-set_first [] (suc n) p v h = refl
-set_first (x ∷ xs) (suc n) zero v h = ap (λ (l : List ℕ). v ∷ l) (sym (take-append-drop n xs))
-set_first (x ∷ xs) (suc n) (suc p) v h = ap (λ (l : List ℕ). x ∷ l) (set_first xs n p v (le_of_suc-le-suc h))
-
--- the first n are replaced by as many
-pub front-take : (n : ℕ) (now new : List ℕ) → length new ≡ length (take n now) → take n (new ++ drop n now) ≡ new
-front-take zero now [] e = refl
-front-take zero now (y ∷ new) e = absurd (omega arith)
-front-take (suc n) [] [] e = refl
-front-take (suc n) [] (y ∷ new) e = absurd (omega arith)
-front-take (suc n) (x ∷ now) [] e = absurd (omega arith)
-front-take (suc n) (x ∷ now) (y ∷ new) e = ap (λ (l : List ℕ). y ∷ l) (front-take n now new (omega arith))
-
-pub front-drop : (n : ℕ) (now new : List ℕ) → length new ≡ length (take n now) → drop n (new ++ drop n now) ≡ drop n now
-front-drop zero now [] e = refl
-front-drop zero now (y ∷ new) e = absurd (omega arith)
-front-drop (suc n) [] [] e = refl
-front-drop (suc n) [] (y ∷ new) e = absurd (omega arith)
-front-drop (suc n) (x ∷ now) [] e = absurd (omega arith)
-front-drop (suc n) (x ∷ now) (y ∷ new) e = front-drop n now new (omega arith)
 
 -- a store of v, below b
 pub store_below : (xs : List ℕ) (p v b k : ℕ) → v < b → at xs k < b → at (set xs p v) k < b

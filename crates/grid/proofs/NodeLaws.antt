@@ -13,8 +13,7 @@ use Rattle.chart.specs.code.Filled.{lines_of as texts_of}
 use Rattle.laws.proofs.Lists.{get_d_tabulate, length-tabulate}
 use Rattle.graph.specs.declared.Tables.{Tables}
 use Rattle.graph.specs.Graph.{Edge, Line, Node, node_at}
-use Rattle.graph.specs.code.Tables.{owned, items_of, lines_at, lines_of, graph_of, graph_from, node_of, held_line, number_line}
-use Rattle.laws.specs.Lists.{one}
+use Rattle.graph.specs.code.Tables.{owned, items_of, lines_at, lines_of, graph_of, graph_from, node_of}
 use Rattle.graph.proofs.Lists.{node-graph}
 use Rattle.grid.specs.RenderNode.{separation, first_x, lines_height}
 use Rattle.grid.specs.code.Rendered.{ends_of, center_of, gap_from, first_from, lines_from, text_from, empty_from, render_of, render_from}
@@ -71,14 +70,6 @@ pub rendered_is : (g : Tables) (p : ℕ) → p < g.n →
     render_from (ends_of (owned p (items_of g.sources))) (center_of (lines_at (texts_of g.lines) g.names p)) (ends_of (owned p (items_of g.sinks)))
     ≡ render_of (node_at (graph_of g) p)
 rendered_is g p h = rw (node-is g p h) (render_is _)
-
--- one line at most
-pub number_short : (m : ℕ) → length (number_line m) ≤ 1
-number_short m = go (eqb m 512)
-  where
-    go : (t : Bool) → length (cond t [] (one (held_line m))) ≤ 1
-    go true = omega arith
-    go false = omega arith
 
 -- the graph has n nodes
 pub graph_long : (g : Tables) → length (graph_of g) ≡ g.n

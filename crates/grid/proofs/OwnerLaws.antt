@@ -1,11 +1,11 @@
 -- Who owns a box, of every graph that is drawn: a given node its own, a cut's box the given node that it shows; 255 stands for a lead's.
 -- Assumes nothing.
-use Prim.Native.Nat.{ℕ, zero, suc, ◌+◌, ◌-◌, ◌*◌, ◌≤◌, ◌<◌}
+use Prim.Native.Nat.{ℕ, zero, suc, ◌+◌, ◌*◌, ◌≤◌, ◌<◌}
 use native.Mathlib.Omega.{arith}
 use mathlib.Core.Path.{◌≡◌, refl, ap, sym, ◌∙◌}
-use mathlib.Core.Bool.{Bool, true, false, cond}
+use mathlib.Core.Bool.{Bool, true, false}
 use mathlib.Core.List.{List, [], ◌∷◌, ◌++◌, map, append-nil}
-use lib.Dec.{eqb, ltb}
+use lib.Dec.{ltb}
 use lib.ListN.{length, get_or}
 use borrow.Author.Tests.{ltb-true, ltb-false}
 use Rattle.laws.specs.Lists.{one}
@@ -13,29 +13,23 @@ use Rattle.chart.specs.declared.Line.{Line as LineItem}
 use Rattle.chart.specs.declared.Setting.{Setting}
 use Rattle.chart.specs.Chart.{Part, Board}
 use Rattle.chart.specs.code.Filled.{owned_lines}
-use Rattle.graph.specs.Graph.{Line, given, number, invalid, Node, Graph, given_graph, node_at}
+use Rattle.graph.specs.declared.Name.{Name}
+use Rattle.graph.specs.declared.Name.TheVariants.{Nothing}
+use Rattle.graph.specs.Graph.{Line, given, number, Node, Graph, given_graph, node_at}
 use Rattle.graph.specs.Joining.{leads_of}
 use Rattle.graph.specs.Graphed.{Dag}
 use Rattle.graph.specs.Laws.{Named, Laws}
-use Rattle.graph.specs.code.Tables.{number_line, lines_at}
+use Rattle.graph.specs.code.Tables.{name_line, lines_at}
 use Rattle.grid.specs.RenderGrid.{owner_in}
-use Rattle.grid.specs.code.Laid.{owner_by}
 
 -- given lines say nothing of the owner
 owner-past : (k : ℕ) (ts : List Part) (ls : List Line) → owner_in k (map given ts ++ ls) ≡ owner_in k ls
 owner-past k [] ls = refl
 owner-past k (t ∷ ts) ls = owner-past k ts ls
 
-owner-line : (m k : ℕ) (b c : Bool) → cond b k (cond c m 255) ≡ owner_in k (cond b [] (one (cond c (number m) (invalid (m - 256)))))
-owner-line m k true c = refl
-owner-line m k false true = refl
-owner-line m k false false = refl
-
 -- the owner by the name that the tables hold
-pub owner-held : (ts : List LineItem) (names : List ℕ) (k : ℕ) → owner_by (get_or names k 0) k ≡ owner_in k (lines_at ts names k)
-owner-held ts names k =
-    let m : ℕ = get_or names k 0 in
-    owner-line m k (eqb m 512) (ltb m 256) ∙ sym (owner-past k (owned_lines k ts) (number_line m))
+pub owner-held : (ts : List LineItem) (names : List Name) (k : ℕ) → owner_in k (name_line (get_or names k Nothing)) ≡ owner_in k (lines_at ts names k)
+owner-held ts names k = sym (owner-past k (owned_lines k ts) (name_line (get_or names k Nothing)))
 
 -- the lines of a graph, by whose box it is
 pub record Owners (n leads cuts : ℕ) (g : Graph) : Type 0 where

@@ -10,6 +10,7 @@ use Rattle.chart.specs.Settings.{Outside}
 use Rattle.graph.specs.Joining.{leads_of}
 use Rattle.graph.specs.Graphed.{graphed}
 use Rattle.graph.proofs.Settings.{graph-settings, graph_twelve, no-leads}
+use Rattle.refusals.specs.declared.Refusal.{Refusal}
 use Rattle.grid.specs.Sheeted.{refusal, drawn, sheeted}
 use Rattle.grid.specs.Labelled.{refusal as unlabelled, label_on, labelled}
 
@@ -23,7 +24,7 @@ module _ (s : List ℕ) (x y : ℕ) where
       go (inl e) = inl (ap (drawn x y) e)
       go (inr o) = inr o
 
-  pub sheet_twelve : (o : Outside s) → sheeted Strict s x y ≡ refusal 12 o.target
+  pub sheet_twelve : (o : Outside s) → sheeted Strict s x y ≡ refusal (Refusal.Outside o.target)
   unfolding sheeted
   sheet_twelve o = ap (drawn x y) (graph_twelve s o)
 
@@ -41,6 +42,6 @@ module _ (s : List ℕ) (x y : ℕ) where
         go (inl e) = inl (ap (label_on k i) e)
         go (inr o) = inr o
 
-    pub label_twelve : (o : Outside s) → labelled Strict s x y k i ≡ unlabelled 12 o.target
+    pub label_twelve : (o : Outside s) → labelled Strict s x y k i ≡ unlabelled (Refusal.Outside o.target)
     unfolding labelled
     label_twelve o = ap (label_on k i) (sheet_twelve o)

@@ -1,40 +1,41 @@
 -- The sheet that the arrays hold is the definition's.
 -- Assumes nothing.
-use Prim.Native.Nat.{ℕ, zero, suc, ◌+◌, ◌*◌, ◌/◌, ◌≤◌, ◌<◌}
+use Prim.Native.Nat.{ℕ, zero, suc, ◌+◌, ◌-◌, ◌/◌, ◌≤◌, ◌<◌}
 use native.Mathlib.Omega.{arith}
 use native.Mathlib.Numerals.{add-one}
-use mathlib.Core.Path.{◌≡◌, refl, ap, sym, ◌∙◌}
+use mathlib.Core.Path.{◌≡◌, refl, ap, sym, ◌∙◌, subst}
 use mathlib.Core.Option.{Option, none, some}
 use mathlib.Core.Bool.{Bool, true, false}
 use mathlib.Core.List.{List, [], ◌∷◌, ◌++◌, map, append_assoc, append-nil}
 use lib.Dec.{eqb}
-use lib.ListN.{length, get_or, take, length-append, length-take}
-use lib.Seq.{get_or-take, length-take-le}
+use lib.ListN.{length, get_or, take, drop, replicate, length-append, length-take, length-map}
+use lib.Seq.{get_or-take, length-take-le, drop-append_seam}
 use borrow.Author.Tests.{lt-ltb}
 use Rattle.laws.specs.Lists.{All, one, tabulate, keep, padded}
 use Rattle.laws.specs.Each.{each}
-use Rattle.laws.proofs.Lists.{length-tabulate, get_d_tabulate, tabulate-same, map-tabulate, padded-set}
+use Rattle.laws.proofs.Lists.{length-tabulate, get_d_tabulate, tabulate_list, tabulate-same, map-tabulate, all_made, take-padded, padded-is, padded-set}
 use Rattle.chart.specs.code.Filled.{lines_of as texts_of}
 use Rattle.graph.specs.declared.Item.{Item}
+use Rattle.graph.specs.declared.Name.TheVariants.{Nothing}
 use Rattle.graph.specs.declared.Tables.{Tables}
 use Rattle.graph.specs.Graph.{Edge, Node, node_at}
-use Rattle.graph.specs.code.Tables.{owned, edge_of, items_of, lines_of, graph_of, graph_from, node_of, dues, Aimed}
+use Rattle.graph.specs.code.Tables.{owned, edge_of, items_of, name_line, lines_of, graph_of, graph_from, node_of, dues, Aimed}
 use Rattle.graph.proofs.Lists.{node-graph}
 use Rattle.graph.proofs.Pairs.{dues_le}
 use Rattle.grid.specs.declared.BoxRecord.{BoxRecord}
 use Rattle.grid.specs.declared.Curve.{Curve}
 use Rattle.grid.specs.declared.SheetRecord.{SheetRecord}
-use Rattle.grid.specs.declared.render_node.RenderNode.{RenderNode}
+use Rattle.grid.specs.declared.render_node.Sides.{Sides}
+use Rattle.grid.specs.declared.render_grid.Axis.TheVariants.{Across, Down}
 use Rattle.grid.specs.declared.render_node.Run.{Run}
-use Rattle.grid.specs.declared.render_grid.Curves.{Curves}
 use Rattle.grid.specs.Lists.{largest}
 use Rattle.grid.specs.Columns.{at}
 use Rattle.grid.specs.Record.{no_box, no_curve}
 use Rattle.grid.specs.RenderNode.{Input, Output, drawn, box_width, box_height, end_width, inputs_at, outputs_at}
 use Rattle.grid.specs.RenderGrid.{Box, Sheet, begins, reach, extent, widths, tallnesses, owner_in, box_of, sheet_of, input_moved, output_moved}
 use Rattle.grid.specs.Curves.{output_for, curve_if, no_outputs, curves_to, curves_from, curves, box_record, record_of}
-use Rattle.grid.specs.code.Rendered.{Seated, AllModest, numbers_of, Noted, render_of, inputs_of, outputs_of}
-use Rattle.grid.specs.code.Laid.{Bounded, sizes_in, begins_to, owner_by, box_from, boxes_from, run_at, Movable, laid_inputs, laid_outputs, no_curves, added, add_all, curves_over, curves_at}
+use Rattle.grid.specs.code.Rendered.{Seated, Modest, render_of, inputs_of, outputs_of}
+use Rattle.grid.specs.code.Laid.{Bounded, line_of, size_of, begins_to, sized, sized_in, placed_at, no_sides, sides_of, sides_in, moved, inputs_in, outputs_in, Near, laid_inputs, laid_outputs, Curves, no_curves, added, add_all, curves_over, curves_at}
 use Rattle.grid.proofs.ListLaws.{at-largest}
 use Rattle.grid.proofs.Arrays.{filled_at, all-tabulate}
 use Rattle.grid.proofs.NodeLaws.{node-is, graph_long}
@@ -89,7 +90,7 @@ curves-more bs box q (suc k) =
 
 -- the curves that are held
 abbrev held : List Curve → Curves
-held l = record { curves = padded 88 no_curve l; drawn = length l }
+held l = record { items = padded 88 no_curve l; count = length l }
 
 add-held : (l cs : List Curve) → length l + length cs ≤ 88 → add_all (held l) cs ≡ held (l ++ cs)
 add-held l [] h = ap held (sym (append-nil l))
@@ -119,10 +120,7 @@ over-is n ys outs bs k h (i ∷ is) a =
     ap (λ (os : List Output). curve_if (output_for i.mark os k) i ++ curves_over ys outs k is) (h i.from a.0)
     ∙ ap (λ (l : List Curve). curve_if (output_for i.mark (get_or bs i.from no_outputs).outputs k) i ++ l) (over-is n ys outs bs k h is a.1)
 
--- ---- the sheet of the tables, whose boxes' numbers stand in ns
-abbrev moved : Run → ℕ → ℕ → Run
-moved r x y = record { x = r.x + x; y = r.y + y; gap = r.gap }
-
+-- ---- the sheet of the tables
 -- the lines of boxes at these places, with these sizes, begin at xs
 abbrev pub Begun : ℕ → List ℕ → List ℕ → List ℕ → Type 0
 Begun gap ps ss xs = (c : ℕ) → c ≤ largest ps → get_or xs c 0 ≡ begins gap ps ss c
@@ -130,15 +128,21 @@ Begun gap ps ss xs = (c : ℕ) → c ≤ largest ps → get_or xs c 0 ≡ begins
 pub begun : (gap : ℕ) (ps ss xs : List ℕ) (last : ℕ) → last ≡ largest ps → last ≤ 143 → xs ≡ begins_to gap ps ss (last + 1) → Begun gap ps ss xs
 begun gap ps ss xs last e l is c h = ap (λ (v : List ℕ). get_or v c 0) is ∙ filled_at (begins gap ps ss) 144 0 (last + 1) c (omega arith) (omega arith)
 
-pub begun_le : (gap : ℕ) (ps ss xs : List ℕ) → gap ≤ 2048 → All (λ s. s ≤ 8389000) ss → Begun gap ps ss xs → (c : ℕ) → c ≤ largest ps → c ≤ 143 → get_or xs c 0 ≤ 1250000000
-begun_le gap ps ss xs g a e c h l = omega (arith, e c h, begins_le gap ps ss g a c)
+-- a table's slice holds what the table was filled with
+pub filled-front : {A : Type 0} (f : ℕ → A) (m : ℕ) (z : A) (n : ℕ) → n ≤ m → take n (padded m z (tabulate f 0 n)) ≡ tabulate f 0 n
+filled-front f m z n h =
+    ap (λ (k : ℕ). take k (padded m z (tabulate f 0 n))) (sym (length-tabulate f 0 n)) ∙ take-padded m z (tabulate f 0 n) (omega (arith, length-tabulate f 0 n))
 
--- the sheet's size along the lines
-total-is : (gap : ℕ) (ps ss xs : List ℕ) → Begun gap ps ss xs → get_or xs (largest ps) 0 + extent ps ss (largest ps) + 128 ≡ reach gap ps ss
-total-is gap ps ss xs e = ap (λ (i : ℕ). i + extent ps ss (largest ps) + 128) (e (largest ps) (omega arith))
+-- as many others are stored over them
+pub filled-over : {A : Type 0} (m : ℕ) (z : A) (n : ℕ) (xs ys : List A) → length xs ≡ n → length ys ≡ n → n ≤ m → ys ++ drop n (padded m z xs) ≡ padded m z ys
+filled-over {A = A} m z n xs ys a b h =
+    let e : drop n (padded m z xs) ≡ replicate (m - n) z =
+    ap (drop n) (padded-is m z xs (omega arith)) ∙ ap (λ (k : ℕ). drop k (xs ++ replicate (m - length xs) z)) (sym a) ∙ drop-append_seam xs (replicate (m - length xs) z)
+    ∙ ap (λ (k : ℕ). replicate (m - k) z) a in
+    ap (λ (l : List A). ys ++ l) e ∙ ap (λ (k : ℕ). ys ++ replicate (m - k) z) (sym b) ∙ sym (padded-is m z ys (omega arith))
 
 module _ (g : Tables) (seat : Seated g) (cols rows : List ℕ) (wide : g.n ≤ length cols) (tall : g.n ≤ length rows)
-    (in-cols : Bounded 143 cols g.n) (in_rows : Bounded 143 rows g.n) (ns : List ℕ) (noted : Noted (graph_of g) g.n ns) where
+    (in-cols : Bounded 143 cols g.n) (in_rows : Bounded 143 rows g.n) where
   long : length (graph_of g) ≡ g.n
   long = graph_long g
 
@@ -154,34 +158,30 @@ module _ (g : Tables) (seat : Seated g) (cols rows : List ℕ) (wide : g.n ≤ l
   abbrev rs : List ℕ
   rs = take g.n rows
 
-  abbrev node : ℕ → RenderNode
-  node k = render_of (node_at (graph_of g) k)
+  -- the boxes before they have a place
+  abbrev before : List BoxRecord
+  before = sized_in g rows cols
 
-  -- field i of the boxes
-  module _ (i : ℕ) (below : i < 8) where
-    sizes_are : (size : Node → ℕ) → ((k : ℕ) → get_or (numbers_of (node k)) i 0 ≡ size (node_at (graph_of g) k)) → sizes_in ns i g.n ≡ map size (graph_of g)
-    sizes_are size e =
-        tabulate-same (λ k. get_or ns (8 * k + i) 0) (λ k. size (node_at (graph_of g) k)) 0 g.n (λ k l u. noted.number k (omega arith) i below ∙ e k)
-        ∙ sym (map-nodes size)
+  pub before-long : length before ≡ g.n
+  before-long = length-tabulate (sized g rows cols) 0 g.n
 
-    sizes_small : ((k : ℕ) → k < g.n → get_or (numbers_of (node k)) i 0 ≤ 8389000) → All (λ s. s ≤ 8389000) (sizes_in ns i g.n)
-    sizes_small m =
-        all-tabulate (λ s. s ≤ 8389000) (λ k. get_or ns (8 * k + i) 0) 0 g.n
-        (λ k l u. let h : k < g.n = omega arith in omega (arith, noted.number k h i below, m k h))
+  front : (xs : List ℕ) → g.n ≤ length xs → tabulate (λ k. get_or xs k 0) 0 g.n ≡ take g.n xs
+  front xs l =
+      let n : length (take g.n xs) ≡ g.n = length-take-le g.n xs l in
+      ap (tabulate (λ k. get_or xs k 0) 0) (sym n)
+      ∙ tabulate_list 0 (λ k. get_or xs k 0) 0 (take g.n xs) (λ i h. let e : 0 + i ≡ i = omega arith in rw e (sym (get_or-take g.n xs i 0 (omega arith))))
 
-  widths-are : sizes_in ns 0 g.n ≡ widths (graph_of g)
-  unfolding render_of
-  widths-are = sizes_are 0 (omega arith) box_width (λ k. refl)
+  pub columns-are : map (line_of Across) before ≡ cs
+  columns-are = map-tabulate (line_of Across) (sized g rows cols) 0 g.n ∙ front cols wide
 
-  heights-are : sizes_in ns 1 g.n ≡ tallnesses (graph_of g)
-  unfolding render_of
-  heights-are = sizes_are 1 (omega arith) box_height (λ k. refl)
+  pub rows-are : map (line_of Down) before ≡ rs
+  rows-are = map-tabulate (line_of Down) (sized g rows cols) 0 g.n ∙ front rows tall
 
-  pub small-widths : AllModest (graph_of g) g.n → All (λ s. s ≤ 8389000) (sizes_in ns 0 g.n)
-  small-widths m = sizes_small 0 (omega arith) (λ k h. (m k h).wide)
+  pub widths-are : map (size_of Across) before ≡ widths (graph_of g)
+  widths-are = map-tabulate (size_of Across) (sized g rows cols) 0 g.n ∙ sym (map-nodes box_width)
 
-  pub small-heights : AllModest (graph_of g) g.n → All (λ s. s ≤ 8389000) (sizes_in ns 1 g.n)
-  small-heights m = sizes_small 1 (omega arith) (λ k h. omega (arith, (m k h).tall))
+  pub heights-are : map (size_of Down) before ≡ tallnesses (graph_of g)
+  heights-are = map-tabulate (size_of Down) (sized g rows cols) 0 g.n ∙ sym (map-nodes box_height)
 
   pub last-column : largest cs ≤ 143
   last-column = largest_le 143 g.n cols wide in-cols
@@ -189,8 +189,26 @@ module _ (g : Tables) (seat : Seated g) (cols rows : List ℕ) (wide : g.n ≤ l
   pub last_row : largest rs ≤ 143
   last_row = largest_le 143 g.n rows tall in_rows
 
+  pub placeable : All (λ b. (b.column ≤ 143) × (b.row ≤ 143)) before
+  placeable = all-tabulate (λ b. (b.column ≤ 143) × (b.row ≤ 143)) (sized g rows cols) 0 g.n (λ i l u. (in-cols.most i (omega arith), in_rows.most i (omega arith)))
+
+  module _ (modest : (k : ℕ) → k < g.n → Modest (render_of (node_at (graph_of g) k))) where
+    pub small-widths : All (λ b. size_of Across b ≤ 8389000) before
+    unfolding render_of
+    small-widths = all-tabulate (λ b. size_of Across b ≤ 8389000) (sized g rows cols) 0 g.n (λ i l u. (modest i (omega arith)).wide)
+
+    pub small-heights : All (λ b. size_of Down b ≤ 8389000) before
+    unfolding render_of
+    small-heights = all-tabulate (λ b. size_of Down b ≤ 8389000) (sized g rows cols) 0 g.n (λ i l u. omega (arith, (modest i (omega arith)).tall))
+
+    low-widths : All (λ s. s ≤ 8389000) (widths (graph_of g))
+    low-widths = rw (← widths-are) (all_made (λ b. size_of Across b ≤ 8389000) (λ s. s ≤ 8389000) (size_of Across) (λ b h. h) before small-widths)
+
+    low-heights : All (λ s. s ≤ 8389000) (tallnesses (graph_of g))
+    low-heights = rw (← heights-are) (all_made (λ b. size_of Down b ≤ 8389000) (λ s. s ≤ 8389000) (size_of Down) (λ b h. h) before small-heights)
+
   -- columns begin at xs and rows at ys
-  module _ (xs ys : List ℕ) (xs-at : Begun 1024 cs (sizes_in ns 0 g.n) xs) (ys-at : Begun 2048 rs (sizes_in ns 1 g.n) ys) where
+  module _ (xs ys : List ℕ) (xs-at : Begun 1024 cs (widths (graph_of g)) xs) (ys-at : Begun 2048 rs (tallnesses (graph_of g)) ys) where
     abbrev box : ℕ → Box
     box = box_of (graph_of g) cs rs
 
@@ -198,81 +216,88 @@ module _ (g : Tables) (seat : Seated g) (cols rows : List ℕ) (wide : g.n ≤ l
     in_largest places l k h =
         omega (arith, get_or-take g.n places k 0 h, at-largest (take g.n places) k (omega (arith, length-take-le g.n places l)))
 
-    place_at : (gap : ℕ) (places ss ts starts : List ℕ) → g.n ≤ length places → ss ≡ ts → Begun gap (take g.n places) ss starts → (k : ℕ) → k < g.n →
-        get_or starts (get_or places k 0) 0 ≡ begins gap (take g.n places) ts (at (take g.n places) k)
-    place_at gap places ss ts starts l e b k h =
-        b (get_or places k 0) (in_largest places l k h) ∙ ap (λ (us : List ℕ). begins gap (take g.n places) us (get_or places k 0)) e
-        ∙ ap (begins gap (take g.n places) ts) (sym (get_or-take g.n places k 0 h))
+    place_at : (gap : ℕ) (places ss starts : List ℕ) → g.n ≤ length places → Begun gap (take g.n places) ss starts → (k : ℕ) → k < g.n →
+        get_or starts (get_or places k 0) 0 ≡ begins gap (take g.n places) ss (at (take g.n places) k)
+    place_at gap places ss starts l b k h =
+        b (get_or places k 0) (in_largest places l k h) ∙ ap (begins gap (take g.n places) ss) (sym (get_or-take g.n places k 0 h))
 
     x-at : (k : ℕ) → k < g.n → get_or xs (get_or cols k 0) 0 ≡ (box k).x
-    x-at = place_at 1024 cols (sizes_in ns 0 g.n) (widths (graph_of g)) xs wide widths-are xs-at
+    x-at = place_at 1024 cols (widths (graph_of g)) xs wide xs-at
 
     y-at : (k : ℕ) → k < g.n → get_or ys (get_or rows k 0) 0 ≡ (box k).y
-    y-at = place_at 2048 rows (sizes_in ns 1 g.n) (tallnesses (graph_of g)) ys tall heights-are ys-at
+    y-at = place_at 2048 rows (tallnesses (graph_of g)) ys tall ys-at
 
-    owner_at : (k : ℕ) → k < g.n → owner_by (get_or g.names k 0) k ≡ (box k).owner
+    owner_at : (k : ℕ) → k < g.n → owner_in k (name_line (get_or g.names k Nothing)) ≡ (box k).owner
     owner_at k h = owner-held (texts_of g.lines) g.names k ∙ ap (λ (x : Node). owner_in k x.lines) (sym (node-is g k h))
 
-    box-is : (k : ℕ) → k < g.n → box_from g.names ns xs ys cols rows k ≡ box_record (box k)
-    unfolding drawn render_of
+    box-is : (k : ℕ) → k < g.n → placed_at xs ys (sized g rows cols k) ≡ box_record (box k)
+    unfolding drawn
     box-is k h =
-        let e : 8 * k ≡ 8 * k + 0 = omega arith in
-        let w : get_or ns (8 * k) 0 ≡ box_width (node_at (graph_of g) k) = ap (λ (i : ℕ). get_or ns i 0) e ∙ noted.number k h 0 (omega arith) in
-        let t : get_or ns (8 * k + 1) 0 ≡ box_height (node_at (graph_of g) k) = noted.number k h 1 (omega arith) in
         let ec : get_or cols k 0 ≡ at cs k = sym (get_or-take g.n cols k 0 h) in
         let er : get_or rows k 0 ≡ at rs k = sym (get_or-take g.n rows k 0 h) in
-        rw (x-at k h, y-at k h, w, t, ec, er, owner_at k h)
+        rw (x-at k h, y-at k h, ec, er, owner_at k h)
 
-    boxes-are : boxes_from g.names ns xs ys cols rows g.n ≡ padded 48 no_box (map box_record (tabulate box 0 (length (graph_of g))))
-    boxes-are =
-        ap (padded 48 no_box)
-        (tabulate-same (box_from g.names ns xs ys cols rows) (λ k. box_record (box k)) 0 g.n (λ i l u. box-is i (omega arith))
+    -- the boxes in their places
+    abbrev after : List BoxRecord
+    after = map (placed_at xs ys) before
+
+    pub after-long : length after ≡ g.n
+    after-long = length-map before (placed_at xs ys) ∙ before-long
+
+    after-made : after ≡ tabulate (λ k. placed_at xs ys (sized g rows cols k)) 0 g.n
+    after-made = map-tabulate (placed_at xs ys) (sized g rows cols) 0 g.n
+
+    after-at : (k : ℕ) → k < g.n → get_or after k no_box ≡ box_record (box k)
+    after-at k h =
+        let e : 0 + k ≡ k = omega arith in
+        ap (λ (l : List BoxRecord). get_or l k no_box) after-made ∙ get_d_tabulate (λ k. placed_at xs ys (sized g rows cols k)) 0 g.n k no_box h ∙ rw e (box-is k h)
+
+    after-are : after ≡ map box_record (tabulate box 0 (length (graph_of g)))
+    after-are =
+        after-made
+        ∙ tabulate-same (λ k. placed_at xs ys (sized g rows cols k)) (λ k. box_record (box k)) 0 g.n (λ i l u. box-is i (omega arith))
         ∙ sym (map-tabulate box_record box 0 g.n)
-        ∙ ap (λ (m : ℕ). map box_record (tabulate box 0 m)) (sym long))
+        ∙ ap (λ (m : ℕ). map box_record (tabulate box 0 m)) (sym long)
 
     -- the points in their final places
+    abbrev sides : List Sides
+    sides = sides_in g
+
+    side_at : (k : ℕ) → k < g.n → get_or sides k no_sides ≡ sides_of (node_at (graph_of g) k)
+    side_at k h = get_d_tabulate (λ k. sides_of (node_at (graph_of g) k)) 0 g.n k no_sides h ∙ ap (λ (k : ℕ). sides_of (node_at (graph_of g) k)) (omega arith)
+
     abbrev ins : ℕ → Run
-    ins = run_at ns xs ys cols rows 2
+    ins = inputs_in sides after
 
     abbrev outs : ℕ → Run
-    outs = run_at ns xs ys cols rows 5
+    outs = outputs_in sides after
 
-    -- the numbers of box k from `from` on are the run r
-    module _ (k : ℕ) (h : k < g.n) (from : ℕ) (r : Run) (first : get_or ns (8 * k + from) 0 ≡ r.x) (height : get_or ns (8 * k + from + 1) 0 ≡ r.y)
-        (gap : get_or ns (8 * k + from + 2) 0 ≡ r.gap) where
-      run_is : run_at ns xs ys cols rows from k ≡ moved r (box k).x (box k).y
-      run_is = rw (first, height, gap, x-at k h, y-at k h)
+    ins-at : (k : ℕ) → k < g.n → ins k ≡ moved (inputs_of (node_at (graph_of g) k)) (box_record (box k))
+    ins-at k h = rw (side_at k h, after-at k h)
 
-      run_moves : AllModest (graph_of g) g.n → r.x ≤ 8389000 → r.y ≤ 200000 → r.gap ≤ 8389000 → Movable ns xs ys cols rows from k
-      run_moves m a b c =
+    outs-at : (k : ℕ) → k < g.n → outs k ≡ moved (outputs_of (node_at (graph_of g) k)) (box_record (box k))
+    outs-at k h = rw (side_at k h, after-at k h)
+
+    module _ (modest : (k : ℕ) → k < g.n → Modest (render_of (node_at (graph_of g) k))) where
+      near-by : (k : ℕ) → k < g.n → (r : Run) → r.x ≤ 8389000 → r.y ≤ 200000 → r.gap ≤ 8389000 → Near r (box_record (box k))
+      near-by k h r a b c =
           record {
-            column = in-cols.most k h;
-            row = in_rows.most k h;
-            first = omega (arith, first);
-            height = omega (arith, height);
-            gap = omega (arith, gap);
-            across = begun_le 1024 cs (sizes_in ns 0 g.n) xs (omega arith) (small-widths m) xs-at (get_or cols k 0) (in_largest cols wide k h) (in-cols.most k h);
-            down = begun_le 2048 rs (sizes_in ns 1 g.n) ys (omega arith) (small-heights m) ys-at (get_or rows k 0) (in_largest rows tall k h) (in_rows.most k h);
+            first = a;
+            height = b;
+            gap = c;
+            across = omega (arith, begins_le 1024 cs (widths (graph_of g)) (omega arith) (low-widths modest) (at cs k), get_or-take g.n cols k 0 h, in-cols.most k h);
+            down = omega (arith, begins_le 2048 rs (tallnesses (graph_of g)) (omega arith) (low-heights modest) (at rs k), get_or-take g.n rows k 0 h, in_rows.most k h);
           }
 
-    number_at : (k : ℕ) → k < g.n → (from j i : ℕ) → from + j ≡ i → i < 8 → get_or ns (8 * k + from + j) 0 ≡ get_or (numbers_of (node k)) i 0
-    number_at k h from j i e l = let q : 8 * k + from + j ≡ 8 * k + i = omega arith in ap (λ (m : ℕ). get_or ns m 0) q ∙ noted.number k h i l
+      pub inputs-near : (k : ℕ) → k < g.n → Near (get_or sides k no_sides).inputs (get_or after k no_box)
+      unfolding render_of
+      inputs-near k h =
+          rw (side_at k h, after-at k h) (near-by k h (inputs_of (node_at (graph_of g) k)) (modest k h).first_input (modest k h).input_height (modest k h).input_gap)
 
-    ins-at : (k : ℕ) → k < g.n → ins k ≡ moved (node k).inputs (box k).x (box k).y
-    ins-at k h = run_is k h 2 (node k).inputs (noted.number k h 2 (omega arith)) (number_at k h 2 1 3 refl (omega arith)) (number_at k h 2 2 4 refl (omega arith))
-
-    outs-at : (k : ℕ) → k < g.n → outs k ≡ moved (node k).outputs (box k).x (box k).y
-    outs-at k h = run_is k h 5 (node k).outputs (noted.number k h 5 (omega arith)) (number_at k h 5 1 6 refl (omega arith)) (number_at k h 5 2 7 refl (omega arith))
-
-    pub inputs-move : AllModest (graph_of g) g.n → (k : ℕ) → k < g.n → Movable ns xs ys cols rows 2 k
-    inputs-move m k h =
-        run_moves k h 2 (node k).inputs (noted.number k h 2 (omega arith)) (number_at k h 2 1 3 refl (omega arith)) (number_at k h 2 2 4 refl (omega arith))
-        m (m k h).first_input (m k h).input_height (m k h).input_gap
-
-    pub outputs-move : AllModest (graph_of g) g.n → (k : ℕ) → k < g.n → Movable ns xs ys cols rows 5 k
-    outputs-move m k h =
-        run_moves k h 5 (node k).outputs (noted.number k h 5 (omega arith)) (number_at k h 5 1 6 refl (omega arith)) (number_at k h 5 2 7 refl (omega arith))
-        m (m k h).first_output (m k h).output_height (m k h).output_gap
+      pub outputs-near : (k : ℕ) → k < g.n → Near (get_or sides k no_sides).outputs (get_or after k no_box)
+      unfolding render_of
+      outputs-near k h =
+          rw (side_at k h, after-at k h) (near-by k h (outputs_of (node_at (graph_of g) k)) (modest k h).first_output (modest k h).output_height (modest k h).output_gap)
 
     -- the curves
     abbrev bs : List Box
@@ -294,14 +319,14 @@ module _ (g : Tables) (seat : Seated g) (cols rows : List ℕ) (wide : g.n ≤ l
     sources-are q h = ap (λ (v : Node). v.sources) (node-is g q h)
 
     outputs-are : (q : ℕ) → q < g.n → laid_outputs (outs q) (owned q vs) ≡ (get_or bs q no_outputs).outputs
-    unfolding drawn render_of
+    unfolding drawn
     outputs-are q h =
         let r : Run = outputs_of (node_at (graph_of g) q) in
         ap (λ (v : Run). laid_outputs v (owned q vs)) (outs-at q h)
         ∙ rw (bs-at q h, ← sinks-are q h) (outputs-moved (box q).x (box q).y r.gap r.x r.y (node_at (graph_of g) q).sinks)
 
     inputs_are : (k : ℕ) → k < g.n → laid_inputs (ins k) (owned k us) ≡ (box k).inputs
-    unfolding drawn render_of
+    unfolding drawn
     inputs_are k h =
         let r : Run = inputs_of (node_at (graph_of g) k) in
         ap (λ (v : Run). laid_inputs v (owned k us)) (ins-at k h)
@@ -354,10 +379,17 @@ module _ (g : Tables) (seat : Seated g) (cols rows : List ℕ) (wide : g.n ≤ l
     unfolding sheet_of curves
     curves-are = made g.n (omega arith) ∙ ap (λ (m : ℕ). held (curves_from bs 0 (tabulate box 0 m))) (sym long)
 
+    pub drawn-few : (all : Curves) → all ≡ each no_curves (curves_at us vs ins outs) g.n → all.count ≤ 88
+    unfolding sheet_of curves
+    drawn-few all e =
+        let f : length (curves whole) ≤ 88 = subst (λ (m : ℕ). length (curves_from bs 0 (tabulate box 0 m)) ≤ 88) (sym long) (from-room g.n (omega arith)) in
+        omega (arith, ap (λ (s : Curves). s.count) (e ∙ curves-are))
+
     -- what the code makes, one after the other, is the definition's
     pub laid-is : (right low width height : ℕ) (boxes : List BoxRecord) (all : Curves) → right ≡ largest cs → low ≡ largest rs →
-        width ≡ get_or xs right 0 + extent cs (sizes_in ns 0 g.n) right + 128 → height ≡ get_or ys low 0 + extent rs (sizes_in ns 1 g.n) low + 128 →
-        boxes ≡ boxes_from g.names ns xs ys cols rows g.n → all ≡ each no_curves (curves_at us vs ins outs) g.n → (x y : ℕ) →
+        width ≡ begins 1024 cs (widths (graph_of g)) right + extent cs (widths (graph_of g)) right + 128 →
+        height ≡ begins 2048 rs (tallnesses (graph_of g)) low + extent rs (tallnesses (graph_of g)) low + 128 →
+        boxes ≡ padded 48 no_box after → all ≡ each no_curves (curves_at us vs ins outs) g.n → (x y : ℕ) →
         ◌≡◌ {A = SheetRecord}
         (record {
           width = width;
@@ -368,15 +400,13 @@ module _ (g : Tables) (seat : Seated g) (cols rows : List ℕ) (wide : g.n ≤ l
           rows = low + 1;
           cuts = g.cuts;
           count = g.n;
-          drawn = all.drawn;
+          drawn = all.count;
           boxes = boxes;
-          curves = all.curves;
+          curves = all.items;
         })
         (record_of whole x y)
     unfolding record_of sheet_of
     laid-is right low width height boxes all is_right is-low is-width is-height is-boxes is_all x y =
-        let w : width ≡ reach 1024 cs (widths (graph_of g)) =
-        is-width ∙ rw (is_right, total-is 1024 cs (sizes_in ns 0 g.n) xs xs-at, widths-are) in
-        let t : height ≡ reach 2048 rs (tallnesses (graph_of g)) =
-        is-height ∙ rw (is-low, total-is 2048 rs (sizes_in ns 1 g.n) ys ys-at, heights-are) in
-        rw (w, t, is_right, is-low, is-boxes ∙ boxes-are, is_all ∙ curves-are, length-tabulate box 0 (length (graph_of g)), long, add-one (largest cs), add-one (largest rs))
+        let w : width ≡ reach 1024 cs (widths (graph_of g)) = is-width ∙ rw is_right in
+        let t : height ≡ reach 2048 rs (tallnesses (graph_of g)) = is-height ∙ rw is-low in
+        rw (w, t, is_right, is-low, is-boxes ∙ ap (padded 48 no_box) after-are, is_all ∙ curves-are, length-tabulate box 0 (length (graph_of g)), long, add-one (largest cs), add-one (largest rs))

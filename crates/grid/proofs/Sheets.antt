@@ -7,24 +7,23 @@ use mathlib.Core.Logic.{◌⊎◌}
 use mathlib.Core.Bool.{Bool, true, false, cond, ◌&&◌}
 use mathlib.Core.List.{List, [], ◌∷◌, ◌++◌, map}
 use lib.Dec.{ltb}
-use lib.ListN.{length, get_or, take, drop, replicate, length-append, get_or-map}
+use lib.ListN.{length, get_or, take, drop, replicate, get_or-map}
 use lib.Seq.{get_or-take, take_at}
 use borrow.Author.Tests.{ltb-true, ltb-false, le-leb}
 use Rattle.laws.specs.Lists.{All}
 use Rattle.laws.proofs.Lists.{all_made, get_d_padded}
-use Rattle.chart.specs.declared.Answer.{Answer}
-use Rattle.chart.specs.declared.Answer.TheVariants.{Ready, Refused}
+use Rattle.refusals.specs.declared.Refusal.{Refusal}
+use Rattle.refusals.specs.declared.Refusal.TheVariants.{TooFar}
 use Rattle.chart.specs.declared.Setting.{Setting}
 use Rattle.graph.specs.declared.Tables.{Tables}
-use Rattle.graph.specs.declared.Outcome.{Outcome as Graphing}
 use Rattle.graph.specs.Graph.{Edge, Graph, node_at}
 use Rattle.graph.specs.Shape.{Shape, targets, shape_of}
-use Rattle.graph.specs.declared.Ends.{Ends}
+use Rattle.graph.specs.Items.{Ends}
 use Rattle.graph.specs.Ends.{ends_in, shape_from, Linked}
 use Rattle.graph.specs.Graphed.{Dag, ready as cut, refusal as refused, graphed, leads_read, leads_in}
 use Rattle.graph.specs.Joining.{leads_of}
 use Rattle.graph.specs.code.Tables.{items_of, lines_of, graph_of}
-use Rattle.graph.specs.code.Graphs.{dag_in, Graphs}
+use Rattle.graph.specs.code.Graphs.{dag_in, Sound, Graphs}
 use Rattle.graph.specs.Laws.{Aimed, Laws}
 use Rattle.graph.proofs.Gathers.{graph-laws}
 use Rattle.graph.proofs.Cuts.{length-graph}
@@ -34,28 +33,30 @@ use Rattle.order.specs.Claims.{Under, Aimed as Led, EachOnce}
 use Rattle.order.specs.Ordered.{columns_in}
 use Rattle.order.proofs.Nodes.{each-once}
 use Rattle.order.proofs.Pushed.{shape_size}
-use Rattle.order.proofs.Graphs.{columns_in_lem, columns-each, sources-linked, sinks-linked, size}
+use Rattle.std.specs.Prelude.{Option, Some, Result, Ok, Err}
+use Rattle.std.specs.Option.{unwrap_or}
+use Rattle.order.specs.Ordered.{IsColumns}
+use Rattle.order.proofs.Graphs.{columns-are, sources-linked, sinks-linked, size}
 use Rattle.grid.specs.declared.BoxRecord.{BoxRecord}
 use Rattle.grid.specs.declared.SheetRecord.{SheetRecord}
 use Rattle.grid.specs.Heights.{heights}
 use Rattle.grid.specs.Columns.{columns}
 use Rattle.grid.specs.code.Arrays.{Inside}
 use Rattle.grid.specs.code.Laid.{Bounded}
-use Rattle.grid.specs.code.Placed.{FirstColumns}
+use Rattle.grid.specs.code.Placed.{Placed, FirstColumns}
 use Rattle.grid.specs.code.Rendered.{Seated}
 use Rattle.grid.specs.RenderNode.{drawn, box_width, box_height}
-use Rattle.grid.specs.declared.Outcome.{Outcome}
 use Rattle.grid.specs.RenderGrid.{Box, Sheet, owner_in, sheet_of, sheet}
-use Rattle.grid.specs.Record.{no_box, no_sheet}
+use Rattle.grid.specs.Record.{no_box}
 use Rattle.grid.specs.Curves.{no_outputs, box_record, record_of}
 use Rattle.grid.specs.Cells.{Apart}
 use Rattle.grid.proofs.SheetTheorem.{SheetTheorem, box as box_in}
-use Rattle.grid.specs.Sheeted.{ready, refusal, within, fitted, sheet_of_dag, sheeted, outcome_of}
-use Rattle.grid.specs.code.Laid.{fitted_of, arranged_of}
+use Rattle.grid.specs.Sheeted.{ready, refusal, within, fitted, sheet_of_dag, sheeted, answer_of}
+use Rattle.grid.specs.code.Laid.{fitted_of}
 use Rattle.grid.specs.BoxTheorem.{box, cell, Names, Across, Down, BoxTheorem}
 use Rattle.grid.proofs.HeightLaws.{heights-long}
 use Rattle.grid.proofs.ColumnLaws.{first-placed, columns-placed}
-use Rattle.grid.proofs.RoundLaws.{heights-take, heights-inside, columns-take}
+use Rattle.grid.proofs.RoundLaws.{heights-take, heights-inside}
 use Rattle.grid.proofs.BoxTheorem.{sheet-theorem, columns-few, rows_few, never_14 as fits}
 use Rattle.grid.proofs.TextLaws.{small}
 use Rattle.grid.proofs.OwnerLaws.{Owners, owners-inside, graph-owners}
@@ -174,27 +175,37 @@ module _ (n leads cuts : ℕ) (g : Graph) (sh : Sheet) (t : SheetTheorem n leads
       }
 
 -- ---- what the lower crates promise
-module _ (v : Setting) (s : List ℕ) (w : Graphing) (a : Graphs v s w) (first : List ℕ) (f : first ≡ (columns_in w.graph.n (ends_in w.graph.sources) (ends_in w.graph.sinks)).columns) where
-  abbrev t : Tables
-  t = w.graph
+module _ (v : Setting) (s : List ℕ) (w : Result Tables Refusal) (a : Graphs v s w) (t : Tables) (o : w ≡ Ok t) (first : List ℕ) (f : first ≡ unwrap_or (columns_in t.n (ends_in t.sources) (ends_in t.sinks)) (replicate 48 0)) where
+  sound : Sound t
+  sound = a.sound t o
 
   abbrev firsts : List ℕ
   firsts = first_columns (shape_of (graph_of t))
 
   from : Linked t.n (ends_in t.sources)
-  from = sources-linked t (sources-long v s w a) (sinks-long v s w a) a.sound.linked
+  from = sources-linked t (sources-long t v s w a o) (sinks-long t v s w a o) sound.linked
 
   to : Linked t.n (ends_in t.sinks)
-  to = sinks-linked t (sources-long v s w a) (sinks-long v s w a) a.sound.linked
+  to = sinks-linked t (sources-long t v s w a o) (sinks-long t v s w a o) sound.linked
+
+  -- the array of the first columns
+  abbrev held : List ℕ
+  held = first_columns (shape_from t.n (ends_in t.sources) (ends_in t.sinks)) ++ replicate (48 - t.n) 0
+
+  columned : IsColumns t.n (ends_in t.sources) (ends_in t.sinks) (Some held)
+  columned = columns-are t.n (ends_in t.sources) (ends_in t.sinks) from to held refl
+
+  held-is : first ≡ held
+  held-is = f ∙ ap (λ (o : Option (List ℕ)). unwrap_or o (replicate 48 0)) (sym columned.whole)
 
   once : EachOnce t.n (take t.n first)
-  once = rw f (columns-each t.n (ends_in t.sources) (ends_in t.sinks) from to)
+  once = rw held-is (columned.each held refl)
 
   -- the first columns that the code hands on
   pub first-is : take t.n first ≡ firsts
   first-is =
-      ap (take t.n) (f ∙ columns_in_lem t.n (ends_in t.sources) (ends_in t.sinks) from to ∙ ap (λ (g : Shape). first_columns g ++ replicate (48 - t.n) 0) (shape-held t))
-      ∙ take_at firsts (replicate (48 - t.n) 0) t.n (size t (sources-long v s w a) (sinks-long v s w a) a.sound.linked)
+      ap (take t.n) (held-is ∙ ap (λ (g : Shape). first_columns g ++ replicate (48 - t.n) 0) (shape-held t))
+      ∙ take_at firsts (replicate (48 - t.n) 0) t.n (size t (sources-long t v s w a o) (sinks-long t v s w a o) sound.linked)
 
   pub firsts-are : FirstColumns t.n (take t.n first)
   firsts-are =
@@ -205,10 +216,10 @@ module _ (v : Setting) (s : List ℕ) (w : Graphing) (a : Graphs v s w) (first :
       }
 
   pub seated : Seated t
-  seated = record { linked = a.sound.linked; line_room = a.sound.line_room }
+  seated = record { linked = sound.linked; line_room = sound.line_room; sources_long = sources-long t v s w a o; sinks_long = sinks-long t v s w a o }
 
 -- ---- the stages one after the other
-module _ (t : Tables) (long : length t.sources.items ≡ 88) (long₂ : length t.sinks.items ≡ 88) (z : Seated t) (from to : Ends) (e : from ≡ ends_in t.sources) (e₂ : to ≡ ends_in t.sinks) where
+module _ (t : Tables) (z : Seated t) (from to : Ends) (e : from ≡ ends_in t.sources) (e₂ : to ≡ ends_in t.sinks) where
   abbrev shape : Shape
   shape = shape_from t.n from to
 
@@ -216,10 +227,10 @@ module _ (t : Tables) (long : length t.sources.items ≡ 88) (long₂ : length t
   shape_is = rw (e, e₂) (shape-held t)
 
   pub from-linked : Linked t.n from
-  from-linked = rw e (sources-linked t long long₂ z.linked)
+  from-linked = rw e (sources-linked t z.sources_long z.sinks_long z.linked)
 
   pub to-linked : Linked t.n to
-  to-linked = rw e₂ (sinks-linked t long long₂ z.linked)
+  to-linked = rw e₂ (sinks-linked t z.sources_long z.sinks_long z.linked)
 
   shape-nodes : length shape ≡ t.n
   shape-nodes = shape_size t.n from to from-linked to-linked
@@ -227,55 +238,62 @@ module _ (t : Tables) (long : length t.sources.items ≡ 88) (long₂ : length t
   few-boxes : t.n ≤ 48
   few-boxes = z.linked.nodes
 
-  module _ (rows : List ℕ) (h : rows ≡ heights shape ++ replicate (48 - t.n) 0) where
-    pub rows_inside : Inside t.n 48 rows
-    rows_inside = heights-inside t.n shape shape-nodes few-boxes rows h
+  rows_long : length (heights shape) ≡ t.n
+  rows_long = heights-long shape ∙ shape-nodes
 
-    pub rows_bounded : Bounded 47 rows t.n
-    rows_bounded = record { most = λ k l. omega (arith, rows_inside.below k l) }
+  -- the leads that the code holds are the shape's
+  module _ (held : Shape) (s : held ≡ shape) (rows : List ℕ) (h : rows ≡ heights held ++ replicate (48 - length held) 0) where
+    pub held-nodes : length held ≡ t.n
+    held-nodes = ap length s ∙ shape-nodes
 
     rows_are : take t.n rows ≡ heights shape
-    rows_are = heights-take t.n shape shape-nodes few-boxes rows h
+    rows_are = heights-take t.n shape shape-nodes few-boxes rows (rw (s, shape-nodes) at h)
 
-    rows_long : length (take t.n rows) ≡ t.n
-    rows_long = ap length rows_are ∙ heights-long shape ∙ shape-nodes
+    pub rows_inside : (length (take t.n rows) ≡ length held) × Inside 48 (take t.n rows)
+    rows_inside = rw (rows_are, held-nodes) (rows_long, heights-inside t.n shape shape-nodes few-boxes)
 
-    rows-room : t.n ≤ length rows
-    rows-room = omega (arith, ap length h, length-append (heights shape) (replicate (48 - t.n) 0), heights-long shape, shape-nodes)
+    pub rows_bounded : Bounded 47 rows t.n
+    rows_bounded =
+        record { most = λ k l. omega (arith, get_or-take t.n rows k 0 l, rows_inside.1.below k (omega (arith, rows_inside.0, held-nodes))) }
 
-    module _ (first : List ℕ) (f : FirstColumns t.n (take t.n first)) (cols : List ℕ) (c : cols ≡ columns shape (take t.n rows) (take t.n first) ++ drop t.n first) where
-      cols_are : take t.n cols ≡ columns shape (take t.n rows) (take t.n first)
-      cols_are = columns-take t.n shape shape-nodes few-boxes rows first cols rows-room f c
+    module _ (first : List ℕ) (f : FirstColumns t.n (take t.n first)) (some : List ℕ) (c : some ≡ columns held (take t.n rows) (take t.n first)) where
+      placed : Placed t.n (3 * t.n) (heights shape) (columns shape (heights shape) (take t.n first))
+      placed = columns-placed t.n (heights shape) rows_long shape shape-nodes (take t.n first) (first-placed t.n (heights shape) (take t.n first) f)
+
+      abbrev cols : List ℕ
+      cols = some ++ drop t.n first
+
+      cols_are : take t.n cols ≡ columns shape (heights shape) (take t.n first)
+      cols_are = let e = rw (s, rows_are) at c in take_at some (drop t.n first) t.n (rw e placed.long) ∙ e
 
       pub cols_bounded : Bounded 143 cols t.n
       cols_bounded =
-          let p = columns-placed t.n (take t.n rows) rows_long shape shape-nodes (take t.n first) (first-placed t.n (take t.n rows) (take t.n first) f) in
-          record { most = λ k l. omega (arith, few-boxes, get_or-take t.n cols k 0 l, ap (λ (u : List ℕ). get_or u k 0) cols_are, p.below k l) }
+          record { most = λ k l. omega (arith, few-boxes, get_or-take t.n cols k 0 l, ap (λ (u : List ℕ). get_or u k 0) cols_are, placed.below k l) }
 
       pub laid-is : sheet_of (graph_of t) t.cuts (take t.n cols) (take t.n rows) ≡ sheet (graph_of t) t.cuts (take t.n first)
       unfolding sheet
       laid-is =
           let a : take t.n rows ≡ heights (shape_of (graph_of t)) = rows_are ∙ ap heights shape_is in
           let b : take t.n cols ≡ columns (shape_of (graph_of t)) (heights (shape_of (graph_of t))) (take t.n first) =
-          cols_are ∙ ap (λ (u : List ℕ). columns shape u (take t.n first)) rows_are ∙ ap (λ (g : Shape). columns g (heights g) (take t.n first)) shape_is in
+          cols_are ∙ ap (λ (g : Shape). columns g (heights g) (take t.n first)) shape_is in
           cc
 
 -- ---- refusal 14
-fit-cases : (b : Bool) (sh : Sheet) (x y : ℕ) → cond b (record { answer = Ready; sheet = record_of sh x y }) (record { answer = Refused 14 0; sheet = no_sheet }) ≡ outcome_of x y (cond b (ready sh) (refusal 14 0))
+fit-cases : (b : Bool) (sh : Sheet) (x y : ℕ) → cond b (Ok (record_of sh x y)) (Err TooFar) ≡ answer_of x y (cond b (ready sh) (refusal TooFar))
 fit-cases true sh x y = refl
 fit-cases false sh x y = refl
 
-fit_record : (sh : Sheet) (x y : ℕ) → fitted_of (record_of sh x y) ≡ outcome_of x y (fitted x y sh)
+fit_record : (sh : Sheet) (x y : ℕ) → fitted_of (record_of sh x y) ≡ answer_of x y (fitted x y sh)
 unfolding record_of
 fit_record sh x y = fit-cases (within x sh.width && within y sh.height) sh x y
 
 -- a sheet that fits is handed out as it is
-fit-ready : (b : Bool) (sh : Sheet) (x y : ℕ) → (outcome_of x y (cond b (ready sh) (refusal 14 0))).answer ≡ Ready → (outcome_of x y (cond b (ready sh) (refusal 14 0))).sheet ≡ record_of sh x y
-fit-ready true sh x y e = refl
-fit-ready false sh x y e = let z : ◌≡◌ {A = ℕ} 0 1 = cc in absurd (omega arith)
+fit-ready : (b : Bool) (sh : Sheet) (x y : ℕ) (r : SheetRecord) → answer_of x y (cond b (ready sh) (refusal TooFar)) ≡ Ok r → r ≡ record_of sh x y
+fit-ready true sh x y r e = cc
+fit-ready false sh x y r e = let z : ◌≡◌ {A = ℕ} 0 1 = cc in absurd (omega arith)
 
--- an answer's sheet, by whether it fits
-module _ (w : Graphing) (first : List ℕ) (x y : ℕ) (answered : w.answer ≡ Ready) (s : SheetRecord) (e : s ≡ record_of (sheet (graph_of w.graph) w.graph.cuts (take w.graph.n first)) x y) where
+-- a graph's sheet, by whether it fits
+module _ (sh : Sheet) (x y : ℕ) (s : SheetRecord) (e : s ≡ record_of sh x y) where
   at_x : s.x ≡ x
   unfolding record_of
   at_x = ap (λ (r : SheetRecord). r.x) e
@@ -284,94 +302,83 @@ module _ (w : Graphing) (first : List ℕ) (x y : ℕ) (answered : w.answer ≡ 
   unfolding record_of
   at_y = ap (λ (r : SheetRecord). r.y) e
 
-  arranged_is : fitted_of s ≡ arranged_of w first x y
-  arranged_is = ap fitted_of e ∙ rw answered
+  pub arranged_fits : (within x s.width && within y s.height) ≡ true → Ok s ≡ fitted_of (record_of sh x y)
+  arranged_fits b = let f : Ok s ≡ fitted_of s = rw (at_x, at_y, b) in f ∙ ap fitted_of e
 
-  pub arranged_fits : (within x s.width && within y s.height) ≡ true → record { answer = Ready; sheet = s } ≡ arranged_of w first x y
-  arranged_fits b = let f : record { answer = Ready; sheet = s } ≡ fitted_of s = rw (at_x, at_y, b) in f ∙ arranged_is
-
-  pub arranged_past : (within x s.width && within y s.height) ≡ false → record { answer = Refused 14 0; sheet = no_sheet } ≡ arranged_of w first x y
-  arranged_past b = let f : record { answer = Refused 14 0; sheet = no_sheet } ≡ fitted_of s = rw (at_x, at_y, b) in f ∙ arranged_is
+  pub arranged_past : (within x s.width && within y s.height) ≡ false → Err TooFar ≡ fitted_of (record_of sh x y)
+  arranged_past b = let f : Err TooFar ≡ fitted_of s = rw (at_x, at_y, b) in f ∙ ap fitted_of e
 
 -- ---- what `sheet` makes: every field is the definition's, and the box theorem holds of it
-pub record Made (v : Setting) (s : List ℕ) (x y : ℕ) (r : Outcome) : Type 0 where
-  pub whole : r ≡ outcome_of x y (sheeted v s x y)
-  pub boxes : (d : Dag) → graphed v s ≡ cut d → r.answer ≡ Ready → BoxTheorem (get_or s 1 0) (leads_in v s) d.cuts d.graph r.sheet
+pub record Made (v : Setting) (s : List ℕ) (x y : ℕ) (r : Result SheetRecord Refusal) : Type 0 where
+  pub whole : r ≡ answer_of x y (sheeted v s x y)
+  pub boxes : (d : Dag) → graphed v s ≡ cut d → (sheet : SheetRecord) → r ≡ Ok sheet → BoxTheorem (get_or s 1 0) (leads_in v s) d.cuts d.graph sheet
 
 -- the leads of a chart that is drawn
 pub leads-are : (v : Setting) (s : List ℕ) (d : Dag) (l : Laws v s d) → leads_of l.board ≡ leads_in v s
 unfolding leads_in
 leads-are v s d l = sym (ap leads_read l.read)
 
-module _ (v : Setting) (s : List ℕ) (x y : ℕ) (w : Graphing) (a : Graphs v s w) where
-  none-cut : {A : Type 0} (number second : ℕ) (d : Dag) → refused number second ≡ cut d → A
-  none-cut number second d e = let z : ◌≡◌ {A = ℕ} 0 1 = cc in absurd (omega arith)
+module _ (v : Setting) (s : List ℕ) (x y : ℕ) (w : Result Tables Refusal) (a : Graphs v s w) where
+  none-cut : {A : Type 0} (why : Refusal) (d : Dag) → refused why ≡ cut d → A
+  none-cut why d e = let z : ◌≡◌ {A = ℕ} 0 1 = cc in absurd (omega arith)
 
   same-dag : (d e : Dag) → cut d ≡ cut e → d ≡ e
   same-dag d e q = cc
 
-  sheet-refused : (number second : ℕ) → w.answer ≡ Refused number second → (r : Outcome) → r ≡ outcome_of 0 0 (refusal number second) → Made v s x y r
+  pub sheet-refused : (why : Refusal) → w ≡ Err why → Made v s x y (Err why)
   unfolding sheeted
-  sheet-refused number second q r e =
-      let g : graphed v s ≡ refused number second = sym a.graphs ∙ rw q in
-      record { whole = rw g e; boxes = λ d h k. none-cut number second d (sym g ∙ h) }
+  sheet-refused why q =
+      let g : graphed v s ≡ refused why = sym a.graphs ∙ rw q in
+      record { whole = rw g; boxes = λ d h sheet k. none-cut why d (sym g ∙ h) }
 
-  module _ (cs : List ℕ) (q : cs ≡ (columns_in w.graph.n (ends_in w.graph.sources) (ends_in w.graph.sinks)).columns) (answered : w.answer ≡ Ready) where
+  module _ (t : Tables) (o : w ≡ Ok t) (cs : List ℕ) (q : cs ≡ unwrap_or (columns_in t.n (ends_in t.sources) (ends_in t.sinks)) (replicate 48 0)) where
     abbrev g : Graph
-    g = graph_of w.graph
+    g = graph_of t
 
     abbrev first : List ℕ
     first = first_columns (shape_of g)
 
     abbrev drawing : Sheet
-    drawing = sheet g w.graph.cuts first
+    drawing = sheet g t.cuts first
 
-    laws : Laws v s (dag_in w.graph)
-    laws = a.laws answered
+    laws : Laws v s (dag_in t)
+    laws = a.laws t o
 
-    many : length g ≡ w.graph.n
-    many = length-graph w.graph.n (lines_of w.graph) (items_of w.graph.sources) (items_of w.graph.sinks)
+    many : length g ≡ t.n
+    many = length-graph t.n (lines_of t) (items_of t.sources) (items_of t.sinks)
 
     columned_first : FirstColumns (length g) first
     columned_first =
         subst (λ (k : ℕ). FirstColumns k first) (sym many)
-        (subst (λ (l : List ℕ). FirstColumns w.graph.n l) (first-is v s w a cs q) (firsts-are v s w a cs q))
+        (subst (λ (l : List ℕ). FirstColumns t.n l) (first-is v s w a t o cs q) (firsts-are v s w a t o cs q))
 
-    theorem : SheetTheorem (get_or s 1 0) (leads_in v s) w.graph.cuts g drawing
+    theorem : SheetTheorem (get_or s 1 0) (leads_in v s) t.cuts g drawing
     theorem =
-        sheet-theorem g first columned_first (get_or s 1 0) (leads_in v s) w.graph.cuts
-        (laws.nodes ∙ ap (λ (n : ℕ). n + leads_of laws.board + 2 * w.graph.cuts) laws.given ∙ ap (λ (l : ℕ). get_or s 1 0 + l + 2 * w.graph.cuts) (leads-are v s (dag_in w.graph) laws))
+        sheet-theorem g first columned_first (get_or s 1 0) (leads_in v s) t.cuts
+        (laws.nodes ∙ ap (λ (n : ℕ). n + leads_of laws.board + 2 * t.cuts) laws.given ∙ ap (λ (l : ℕ). get_or s 1 0 + l + 2 * t.cuts) (leads-are v s (dag_in t) laws))
 
-    owned : Owners (get_or s 1 0) (leads_in v s) w.graph.cuts g
+    owned : Owners (get_or s 1 0) (leads_in v s) t.cuts g
     owned =
-        subst (λ (n : ℕ). Owners n (leads_in v s) w.graph.cuts g) laws.given
-        (subst (λ (l : ℕ). Owners (length laws.board) l w.graph.cuts g) (leads-are v s (dag_in w.graph) laws) (graph-owners v s (dag_in w.graph) laws))
+        subst (λ (n : ℕ). Owners n (leads_in v s) t.cuts g) laws.given
+        (subst (λ (l : ℕ). Owners (length laws.board) l t.cuts g) (leads-are v s (dag_in t) laws) (graph-owners v s (dag_in t) laws))
 
-    boxes-of : BoxTheorem (get_or s 1 0) (leads_in v s) w.graph.cuts g (record_of drawing x y)
+    boxes-of : BoxTheorem (get_or s 1 0) (leads_in v s) t.cuts g (record_of drawing x y)
     boxes-of =
-        boxed (get_or s 1 0) (leads_in v s) w.graph.cuts g drawing theorem owned (omega (arith, theorem.one_each, laws.boxes))
-        (columns-few g first columned_first w.graph.cuts laws.boxes) (rows_few g first columned_first w.graph.cuts laws.boxes) x y
+        boxed (get_or s 1 0) (leads_in v s) t.cuts g drawing theorem owned (omega (arith, theorem.one_each, laws.boxes))
+        (columns-few g first columned_first t.cuts laws.boxes) (rows_few g first columned_first t.cuts laws.boxes) x y
 
-    sheet-ready : (r : Outcome) → r ≡ fitted_of (record_of (sheet g w.graph.cuts (take w.graph.n cs)) x y) → Made v s x y r
+    -- the sheet of an accepted chart, or 14
+    pub sheet-is : (r : Result SheetRecord Refusal) → r ≡ fitted_of (record_of (sheet g t.cuts (take t.n cs)) x y) → Made v s x y r
     unfolding sheeted sheet_of_dag
-    sheet-ready r e =
-        let c : graphed v s ≡ cut (dag_in w.graph) = sym a.graphs ∙ rw answered in
-        let f : r ≡ outcome_of x y (fitted x y drawing) = e ∙ ap (λ (l : List ℕ). fitted_of (record_of (sheet g w.graph.cuts l) x y)) (first-is v s w a cs q) ∙ fit_record drawing x y in
+    sheet-is r e =
+        let c : graphed v s ≡ cut (dag_in t) = sym a.graphs ∙ rw o in
+        let f : r ≡ answer_of x y (fitted x y drawing) = e ∙ ap (λ (l : List ℕ). fitted_of (record_of (sheet g t.cuts l) x y)) (first-is v s w a t o cs q) ∙ fit_record drawing x y in
         record {
           whole = rw c f;
-          boxes = λ d h k.
-              let m : r.sheet ≡ record_of drawing x y =
-              ap (λ (u : Outcome). u.sheet) f ∙ fit-ready (within x drawing.width && within y drawing.height) drawing x y (sym (ap (λ (u : Outcome). u.answer) f) ∙ k) in
-              subst (λ (i : Dag). BoxTheorem (get_or s 1 0) (leads_in v s) i.cuts i.graph r.sheet) (same-dag (dag_in w.graph) d (sym c ∙ h)) (rw m boxes-of);
+          boxes = λ d h made k.
+              let m : made ≡ record_of drawing x y = fit-ready (within x drawing.width && within y drawing.height) drawing x y made (sym f ∙ k) in
+              subst (λ (i : Dag). BoxTheorem (get_or s 1 0) (leads_in v s) i.cuts i.graph made) (same-dag (dag_in t) d (sym c ∙ h)) (rw m boxes-of);
         }
-
-  -- either way
-  pub sheet-is : (cs : List ℕ) → cs ≡ (columns_in w.graph.n (ends_in w.graph.sources) (ends_in w.graph.sinks)).columns → (r : Outcome) → r ≡ arranged_of w cs x y → Made v s x y r
-  sheet-is cs q r e = go w.answer refl
-    where
-      go : (b : Answer) → w.answer ≡ b → Made v s x y r
-      go Ready h = sheet-ready cs q h r (e ∙ rw h)
-      go (Refused number second) h = sheet-refused number second h r (e ∙ rw h)
 
 -- ---- at origin 0 0 no chart meets refusal 14
 under : (n : ℕ) (es : List Edge) → All (λ (e : Edge). e.to < n) es → Under n (targets es)

@@ -4,18 +4,17 @@ use Prim.Native.Nat.{ℕ, zero, suc, ◌+◌, ◌-◌, ◌≤◌, ◌<◌, min}
 use native.Mathlib.Omega.{arith}
 use mathlib.Core.Path.{◌≡◌, refl, ap, ◌∙◌}
 use mathlib.Core.Logic.{◌⊎◌, inl, inr}
-use mathlib.Core.Option.{some}
 use mathlib.Core.Bool.{Bool, true, false, cond, false≢true}
-use lib.Dec.{T, ltb}
+use lib.Dec.{ltb}
 use lib.IntN.{ℤ, pos, negsuc, nat_abs, suc_ℤ, pred_ℤ, ◌-ℤ◌, +ℤ_one, -ℤ_one}
-use lib.Signed.{lt_z, le_z, non_neg}
+use lib.Signed.{lt_z, le_z}
 use mir.Syntax.{w8}
 use mir.Val.{SFits, to_z, of_z}
 use mir.Facts.{to_z-of_z}
-use borrow.Author.Tests.{lt-ltb, le-ltb, le-leb, leb-true, ne_eqb}
+use borrow.Author.Tests.{lt-ltb, le-ltb, le-leb, leb-true}
 use Rattle.laws.proofs.Tests.{less?}
-use Rattle.grid.specs.Heights.{lower}
-use Rattle.grid.specs.code.Walk.{raised, row_if, row_in, row_by, signed_by, least, lesser_of, lower_by, renumbered_of, Above}
+use Rattle.std.specs.Int.{int_min}
+use Rattle.grid.specs.code.Walk.{raised, row_by, signed_by}
 
 -- a row that an i8 holds
 pub fits : (z : ℤ) → nat_abs z < 128 → SFits w8 z
@@ -57,7 +56,7 @@ near-raised n (pos k) a b = omega arith
 near-raised n (negsuc k) a b = omega arith
 
 -- the lesser
-smaller : (n : ℕ) (z m : ℤ) → nat_abs z ≤ n → nat_abs m ≤ n → raised n (cond (lt_z m z) m z) ≡ min (raised n z) (raised n m)
+pub smaller : (n : ℕ) (z m : ℤ) → nat_abs z ≤ n → nat_abs m ≤ n → raised n (int_min z m) ≡ min (raised n z) (raised n m)
 smaller n (pos c) (pos a) h k = go (less? a c)
   where
     go : (a < c) ⊎ (c ≤ a) → raised n (cond (ltb a c) (pos a) (pos c)) ≡ min (n + c) (n + a)
@@ -71,17 +70,12 @@ smaller n (negsuc c) (negsuc a) h k = go (less? c a)
     go (inl l) = rw (lt-ltb c a l) (omega arith)
     go (inr l) = rw (le-ltb c a l) (omega arith)
 
-pub least-raised : (n : ℕ) (b : Bool) (z m : ℤ) → (b ≡ true → nat_abs z ≤ n) → nat_abs m ≤ n → raised n (lesser_of b z m) ≡ least (row_if b (raised n z)) (raised n m)
-least-raised n false z m h k = refl
-least-raised n true z m h k = smaller n z m (h refl) k
-
 either : (t : Bool) (z m : ℤ) (n : ℕ) → nat_abs z ≤ n → nat_abs m ≤ n → nat_abs (cond t m z) ≤ n
 either true z m n h k = k
 either false z m n h k = h
 
-pub lesser_near : (n : ℕ) (b : Bool) (z m : ℤ) → (b ≡ true → nat_abs z ≤ n) → nat_abs m ≤ n → nat_abs (lesser_of b z m) ≤ n
-lesser_near n false z m h k = k
-lesser_near n true z m h k = either (lt_z m z) z m n (h refl) k
+pub smaller-near : (n : ℕ) (z m : ℤ) → nat_abs z ≤ n → nat_abs m ≤ n → nat_abs (int_min z m) ≤ n
+smaller-near n z m h k = either (lt_z m z) z m n h k
 
 -- the order, and the difference
 pub raised_le : (n : ℕ) (z m : ℤ) → nat_abs z ≤ n → nat_abs m ≤ n → raised n m ≤ raised n z → le_z m z ≡ true
@@ -99,61 +93,6 @@ difference n (negsuc c) (negsuc a) h k l =
     let i : c ≤ a = leb-true c a l in
     rw (le-ltb (suc a) (suc c) (omega arith)) (ap pos (omega arith))
 
-pub lower-raised : (n : ℕ) (b : Bool) (z m : ℤ) (y : ℕ) → (b ≡ true → nat_abs z ≤ n) → nat_abs m ≤ n → (b ≡ true → le_z m z ≡ true) →
-    row_in (lower_by b z m y) ≡ lower (raised n m) (row_if b (raised n z)) (row_in y)
-lower-raised n false z m y h k l = refl
-lower-raised n true z m y h k l = ap (λ (d : ℤ). some (nat_abs d)) (difference n z m (h refl) k (l refl))
-
 -- a number read back from its bits
 pub back : (z : ℤ) → nat_abs z < 128 → to_z w8 (of_z w8 z) ≡ z
 back z h = to_z-of_z (fits z h)
-
-pub by_fits : (b : Bool) (z : ℤ) → nat_abs z < 96 → SFits w8 (signed_by b z)
-by_fits b z h = fits (signed_by b z) (omega (arith, near_by b z (nat_abs z) (omega arith)))
-
--- where there is a row, it is near
-pub lesser_back : (b : Bool) (z m : ℤ) → (b ≡ true → nat_abs z ≤ 48) → lesser_of b (to_z w8 (of_z w8 z)) m ≡ lesser_of b z m
-lesser_back false z m h = refl
-lesser_back true z m h = ap (λ (y : ℤ). lesser_of true y m) (back z (omega (arith, h refl)))
-
-pub lower-back : (b : Bool) (z m : ℤ) (y : ℕ) → (b ≡ true → nat_abs z ≤ 48) → lower_by b (to_z w8 (of_z w8 z)) m y ≡ lower_by b z m y
-lower-back false z m y h = refl
-lower-back true z m y h = ap (λ (x : ℤ). lower_by true x m y) (back z (omega (arith, h refl)))
-
--- a lowered row goes before the one that stood
-pub renumbered-is : (b : Bool) (z m : ℤ) (y : ℕ) → renumbered_of (lower_by b z m 0) y ≡ lower_by b z m y
-renumbered-is false z m y = refl
-renumbered-is true z m y = rw (ne_eqb (lower_by true z m 0) 0 (λ e. omega (arith, e)))
-
-pub above-back : (b : Bool) (z m : ℤ) → Above b z m → Above b (to_z w8 (of_z w8 z)) (to_z w8 (of_z w8 m))
-above-back b z m a =
-    let em = back m (omega (arith, a.near)) in
-    record {
-      near = rw em a.near;
-      close = λ e. let ez = back z (omega (arith, a.close e)) in rw ez (a.close e);
-      above = λ e. let ez = back z (omega (arith, a.close e)) in rw (ez, em) (a.above e);
-    }
-
--- lowering one row
-module _ (z m : ℤ) (a : Above true z m) where
-  abbrev gap : ℤ
-  gap = z -ℤ m
-
-  gap_is : gap ≡ pos (raised 48 z - raised 48 m)
-  gap_is = difference 48 z m (a.close refl) a.near (a.above refl)
-
-  raised-most : (y : ℤ) → nat_abs y ≤ 48 → raised 48 y ≤ 96
-  raised-most (pos k) h = omega arith
-  raised-most (negsuc k) h = omega arith
-
-  gap-most : nat_abs gap ≤ 96
-  gap-most = rw gap_is (omega (arith, raised-most z (a.close refl)))
-
-  pub gap-fits : SFits w8 gap
-  gap-fits = fits gap (omega (arith, gap-most))
-
-  pub gap-small : nat_abs gap ≤ 96
-  gap-small = gap-most
-
-  pub gap-positive : T (non_neg gap)
-  gap-positive = rw gap_is tt

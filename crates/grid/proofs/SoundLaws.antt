@@ -14,7 +14,8 @@ use Rattle.laws.specs.Bytes.{all_of}
 use Rattle.laws.specs.Lists.{All, tabulate, padded}
 use Rattle.laws.proofs.Tests.{pick}
 use Rattle.laws.proofs.Lists.{all_made, all_join, length-tabulate, take-padded}
-use Rattle.chart.specs.declared.Answer.TheVariants.{Ready}
+use Rattle.std.specs.Prelude.{Ok}
+use Rattle.refusals.specs.declared.Refusal.TheVariants.{TooFar}
 use Rattle.graph.specs.Graph.{Node, Graph, node_at, bare}
 use Rattle.graph.specs.Shape.{shape_of}
 use Rattle.graph.specs.Graphed.{Dag, Graphed, ready as cut, refusal as refused, graphed}
@@ -26,7 +27,6 @@ use Rattle.graph.proofs.EndsLaws.{shape-long}
 use Rattle.order.specs.Chains.{columns as first_columns}
 use Rattle.grid.specs.declared.Curve.{Curve}
 use Rattle.grid.specs.declared.SheetRecord.{SheetRecord}
-use Rattle.grid.specs.declared.Outcome.{Outcome}
 use Rattle.grid.specs.Heights.{heights}
 use Rattle.grid.specs.Columns.{at, columns}
 use Rattle.grid.specs.code.Placed.{FirstColumns}
@@ -34,7 +34,7 @@ use Rattle.grid.specs.RenderNode.{Input, Output, source_gap, first_x, input_y, d
 use Rattle.grid.specs.RenderGrid.{Box, Sheet, extent, begins, reach, input_moved, output_moved, widths, tallnesses, box_of, sheet_of, sheet}
 use Rattle.grid.specs.Record.{no_box, no_curve, boxes_of, curves_of, box_near, curve_near, sound_of}
 use Rattle.grid.specs.Curves.{output_at, first_to, output_for, curve_if, no_outputs, curves_to, curves_from, curves, box_record, record_of}
-use Rattle.grid.specs.Sheeted.{Sheeted, ready, refusal, within, sheet_of_dag, drawn as drawn_at, sheeted, outcome_of}
+use Rattle.grid.specs.Sheeted.{Sheeted, ready, refusal, within, sheet_of_dag, drawn as drawn_at, sheeted, answer_of}
 use Rattle.grid.proofs.ListLaws.{at_map}
 use Rattle.grid.proofs.Arrays.{all-tabulate}
 use Rattle.grid.proofs.HeightLaws.{heights-long}
@@ -227,7 +227,7 @@ pub record Drawing (v : Setting) (s : List ℕ) (x y : ℕ) (sh : Sheet) : Type 
   pub down : y + sh.height ≤ 8388608
 
 fitted-is : (v : Setting) (s : List ℕ) (x y : ℕ) (d : Dag) (sh : Sheet) → graphed v s ≡ cut d → (b c : Bool) → within x (sheet_of_dag d).width ≡ b → within y (sheet_of_dag d).height ≡ c →
-    cond (b && c) (ready (sheet_of_dag d)) (refusal 14 0) ≡ ready sh → Drawing v s x y sh
+    cond (b && c) (ready (sheet_of_dag d)) (refusal TooFar) ≡ ready sh → Drawing v s x y sh
 fitted-is v s x y d sh g true true a b e =
     let i : sh ≡ sheet_of_dag d = cc in
     record { dag = d; walked = g; is = i; across = rw i (leb-true (x + (sheet_of_dag d).width) 8388608 a); down = rw i (leb-true (y + (sheet_of_dag d).height) 8388608 b) }
@@ -240,7 +240,7 @@ drawing v s x y sh e = go (graphed v s) refl e
   where
     go : (g : Graphed) → graphed v s ≡ g → drawn_at x y g ≡ ready sh → Drawing v s x y sh
     go (cut d) i j = fitted-is v s x y d sh i (within x (sheet_of_dag d).width) (within y (sheet_of_dag d).height) refl refl j
-    go (refused a b) i j = let z : ◌≡◌ {A = ℕ} 0 1 = cc in absurd (omega arith)
+    go (refused why) i j = let z : ◌≡◌ {A = ℕ} 0 1 = cc in absurd (omega arith)
 
 -- what the sheet of a cut graph holds
 pub record Held (d : Dag) (sh : Sheet) : Type 0 where
@@ -280,10 +280,9 @@ pub record Own (v : Setting) (s : List ℕ) (x y : ℕ) (r : SheetRecord) : Type
   pub laid : sheeted v s x y ≡ ready sheet
   pub is : r ≡ record_of sheet x y
 
-ready-own : (v : Setting) (s : List ℕ) (x y : ℕ) (t : Sheeted) → sheeted v s x y ≡ t → (outcome_of x y t).answer ≡ Ready → Own v s x y (outcome_of x y t).sheet
-ready-own v s x y (ready sh) e q = record { sheet = sh; laid = e; is = refl }
-ready-own v s x y (refusal a b) e q = let z : ◌≡◌ {A = ℕ} 0 1 = cc in absurd (omega arith)
-
-pub own : (v : Setting) (s : List ℕ) (x y : ℕ) (a : Outcome) → a ≡ outcome_of x y (sheeted v s x y) → a.answer ≡ Ready → Own v s x y a.sheet
-own v s x y a w q =
-    subst (λ (u : Outcome). Own v s x y u.sheet) (sym w) (ready-own v s x y (sheeted v s x y) refl (sym (ap (λ (u : Outcome). u.answer) w) ∙ q))
+pub own : (v : Setting) (s : List ℕ) (x y : ℕ) (r : SheetRecord) → answer_of x y (sheeted v s x y) ≡ Ok r → Own v s x y r
+own v s x y r q = go (sheeted v s x y) refl q
+  where
+    go : (t : Sheeted) → sheeted v s x y ≡ t → answer_of x y t ≡ Ok r → Own v s x y r
+    go (ready sh) e f = let z : record_of sh x y ≡ r = cc in record { sheet = sh; laid = e; is = sym z }
+    go (refusal why) e f = let z : ◌≡◌ {A = ℕ} 0 1 = cc in absurd (omega arith)

@@ -6,20 +6,21 @@ use native.Mathlib.Nat.{div_self, div-eq_of_lt, one-mul}
 use native.Mathlib.Numerals.{add-one}
 use mathlib.Core.Path.{◌≡◌, refl, ap, sym, ◌∙◌}
 use mathlib.Core.Logic.{◌⊎◌, inl, inr}
-use mathlib.Core.Bool.{Bool, true, false, cond, ◌&&◌, ◌||◌, true≢false}
+use mathlib.Core.Bool.{Bool, true, cond, ◌&&◌, ◌||◌, true≢false}
 use mathlib.Core.List.{List, [], ◌∷◌, ◌++◌}
 use lib.Bits.{bit_or, or_shr, or_step, shifted_even}
 use lib.Dec.{eqb}
-use lib.ListN.{length, set, take, replicate, length-take, get_or-replicate}
+use lib.ListN.{length, set, take, replicate, get_or-replicate}
 use lib.Pow.{pow-lt, pow-add, pow_pos, shl_exact, shl-shr}
-use lib.Seq.{get_or-set_same, get_or-set_other, get_or-take}
+use lib.Seq.{get_or-set_same, get_or-set_other}
 use borrow.Author.Tests.{eq-eqb, ne_eqb}
 use Rattle.laws.proofs.Tests.{and_false, or_true, or_false, same?, less?}
 use Rattle.grid.specs.Lists.{largest}
 use Rattle.grid.specs.Columns.{at, taken, collision, extra, new_columns}
 use Rattle.grid.specs.code.Arrays.{Stands, Tells, Used, word_of, used_in, collision_in, extra_in, table_to}
 use Rattle.grid.proofs.ListLaws.{some_below}
-use Rattle.grid.proofs.FoldLaws.{taken_more, taken-there}
+use Rattle.grid.proofs.ColumnLaws.{taken_at}
+use Rattle.grid.proofs.FoldLaws.{taken_more}
 
 -- ---- a bit of a word
 bit-or : (w v c : ℕ) → bit_or w v / 2 ^ c % 2 ≡ max (w / 2 ^ c % 2) (v / 2 ^ c % 2)
@@ -76,13 +77,13 @@ module _ (used : List ℕ) (y c : ℕ) (long : length used ≡ 240) (hy : y < 48
           ∙ ap (λ (w : ℕ). at used w / 2 ^ (x % 32) % 2) (sym e)
 
 -- the empty table, of no box
-pub used_none : (rows cols : List ℕ) → Tells 0 rows cols (replicate 240 0)
-used_none rows cols r x h l =
+pub used_none : Tells [] [] (replicate 240 0)
+used_none r x h l =
     let z : at (replicate 240 0) (word_of r x) / 2 ^ (x % 32) ≡ 0 = ap (λ (w : ℕ). w / 2 ^ (x % 32)) (get_or-replicate 240 (word_of r x) 0 0 (omega arith)) ∙ div-eq_of_lt (pow_pos (x % 32)) in
     ne_eqb (at (replicate 240 0) (word_of r x) / 2 ^ (x % 32) % 2) 1 (λ q. omega arith)
 
 -- box k after those before it
-module _ (rows cols used : List ℕ) (k : ℕ) (hr : k < length rows) (hc : k < length cols) (long : length used ≡ 240) (hy : at rows k < 48) (hx : at cols k < 160) (u : Tells k rows cols used) where
+module _ (rows cols used : List ℕ) (k : ℕ) (hr : k < length rows) (hc : k < length cols) (long : length used ≡ 240) (hy : at rows k < 48) (hx : at cols k < 160) (u : Tells (take k rows) (take k cols) used) where
   abbrev after : List ℕ
   after = stored used (at rows k) (at cols k) long hy hx
 
@@ -100,46 +101,37 @@ module _ (rows cols used : List ℕ) (k : ℕ) (hr : k < length rows) (hc : k < 
       ∙ sym (rw (ne_eqb (at rows k) r o) (or_false (taken (take k rows) (take k cols) r x)))
 
   -- by the code's numbers: the word's place, and the bit
-  pub used_more : {i v : ℕ} → i ≡ word_of (at rows k) (at cols k) → v ≡ 2 ^ (at cols k % 32) → Tells (k + 1) rows cols (set used i (bit_or (at used i) v))
+  pub used_more : {i v : ℕ} → i ≡ word_of (at rows k) (at cols k) → v ≡ 2 ^ (at cols k % 32) → Tells (take (k + 1) rows) (take (k + 1) cols) (set used i (bit_or (at used i) v))
   used_more {i} {v} e f r x h l =
       rw (e, f, add-one k, taken_more rows cols k r x hr hc) (used_next r x h l (same? (at rows k) r) (same? (at cols k) x))
 
 -- ---- exactly if a box of that row stands there
 -- a place that is taken has a box
-taken-box : (rows cols : List ℕ) (r x : ℕ) → taken rows cols r x ≡ true → Stands (length rows) rows cols r x
+taken-box : (rows cols : List ℕ) (r x : ℕ) → taken rows cols r x ≡ true → Stands rows cols r x
 taken-box [] cols r x h = absurd (true≢false (sym h))
 taken-box (y ∷ rows) [] r x h = absurd (true≢false (sym h))
 taken-box (y ∷ rows) (c ∷ cols) r x h = go (taken-box rows cols r x) (same? y r) (same? c x)
   where
-    later : Stands (length rows) rows cols r x → Stands (suc (length rows)) (y ∷ rows) (c ∷ cols) r x
+    later : Stands rows cols r x → Stands (y ∷ rows) (c ∷ cols) r x
     later b = (suc b.0, omega (arith, b.1), b.2, b.3)
 
-    go : (taken rows cols r x ≡ true → Stands (length rows) rows cols r x) → (y ≡ r) ⊎ (y ≡ r → ⊥) → (c ≡ x) ⊎ (c ≡ x → ⊥) → Stands (suc (length rows)) (y ∷ rows) (c ∷ cols) r x
+    go : (taken rows cols r x ≡ true → Stands rows cols r x) → (y ≡ r) ⊎ (y ≡ r → ⊥) → (c ≡ x) ⊎ (c ≡ x → ⊥) → Stands (y ∷ rows) (c ∷ cols) r x
     go i (inl e) (inl f) = (0, omega arith, e, f)
     go i (inl e) (inr o) = later (i (rw (eq-eqb y r e, ne_eqb c x o) at h))
     go i (inr o) q = later (i (rw (ne_eqb y r o) at h))
 
--- the table of all n boxes
-pub used_all : (n : ℕ) (rows cols used : List ℕ) → n ≤ length rows → n ≤ length cols → Tells n rows cols used → Used n rows cols used
-used_all n rows cols used hr hc u = record { exactly = λ r x h l. (stands r x h l, λ b. u r x h l ∙ sym (taken-there rows cols n b.0 r x hr hc b.1 b.2 b.3)); tells = u }
-  where
-    stands : (r x : ℕ) → r < 48 → x < 160 → used_in used r x ≡ true → Stands n rows cols r x
-    stands r x h l t =
-        let b = taken-box (take n rows) (take n cols) r x (sym (u r x h l) ∙ t) in
-        let i : b.0 < n = omega (arith, b.1, length-take n rows) in
-        (b.0, i, sym (get_or-take n rows b.0 0 i) ∙ b.2, sym (get_or-take n cols b.0 0 i) ∙ b.3)
+-- the table of all boxes
+pub used_all : (rows cols used : List ℕ) → length cols ≡ length rows → Tells rows cols used → Used rows cols used
+used_all rows cols used e u =
+    record {
+      exactly = λ r x h l. (λ t. taken-box rows cols r x (sym (u r x h l) ∙ t), λ b. u r x h l ∙ taken_at rows cols b.0 r x b.1 (omega (arith, b.1)) b.2 b.3);
+      tells = u;
+    }
 
 -- ---- the pair of columns x and x + 1
--- one row more, which does not use the first or not the second; and a row that uses both
-module _ (used : List ℕ) (x r : ℕ) where
-  pub not_first : collision_in used x r ≡ false → used_in used r x ≡ false → collision_in used x (r + 1) ≡ false
-  not_first h k = rw (add-one r, h, k)
-
-  pub not_second : collision_in used x r ≡ false → used_in used r (x + 1) ≡ false → collision_in used x (r + 1) ≡ false
-  not_second h k = rw (add-one r, h, k) (and_false (used_in used r x))
-
-  pub found_in : (h : ℕ) → r < h → used_in used r x ≡ true → used_in used r (x + 1) ≡ true → collision_in used x h ≡ true
-  found_in h l a b = some_below (collision_in used x) (λ q. used_in used q x && used_in used q (x + 1)) (λ q. refl) r h l (rw (a, b))
+-- a row that uses both
+pub found_in : (used : List ℕ) (x r h : ℕ) → r < h → used_in used r x ≡ true → used_in used r (x + 1) ≡ true → collision_in used x h ≡ true
+found_in used x r h l a b = some_below (collision_in used x) (λ q. used_in used q x && used_in used q (x + 1)) (λ q. refl) r h l (rw (a, b))
 
 -- pairs that become as many columns by f as by g
 new-same : (f g : ℕ → ℕ) (k x new : ℕ) → ((i : ℕ) → i < x + 2 * k → f i ≡ g i) → new_columns f k x new ≡ new_columns g k x new
@@ -147,17 +139,17 @@ new-same f g zero x new s = refl
 new-same f g (suc k) x new s = rw (s x (omega arith), new-same f g k (x + 2) (suc (new + g x)) (λ i l. s i (omega arith)))
 
 -- the table says of the first h rows what the boxes say, and so of every pair
-module _ (n : ℕ) (rows cols used : List ℕ) (u : Tells n rows cols used) where
-  collision-same : (x h : ℕ) → h ≤ 48 → x + 1 < 160 → collision_in used x h ≡ collision (take n rows) (take n cols) x h
+module _ (rows cols used : List ℕ) (u : Tells rows cols used) where
+  collision-same : (x h : ℕ) → h ≤ 48 → x + 1 < 160 → collision_in used x h ≡ collision rows cols x h
   collision-same x zero l b = refl
   collision-same x (suc r) l b =
       rw (collision-same x r (omega arith) b, u r x l (omega arith), u r (x + 1) l b)
 
-  extra-same : (x h : ℕ) → h ≡ suc (largest (take n rows)) → h ≤ 48 → x + 1 < 160 → extra_in used h x ≡ extra (take n rows) (take n cols) x
-  extra-same x h e l b = ap (λ (t : Bool). cond t 1 0) (collision-same x h l b ∙ ap (collision (take n rows) (take n cols) x) e)
+  extra-same : (x h : ℕ) → h ≡ suc (largest rows) → h ≤ 48 → x + 1 < 160 → extra_in used h x ≡ extra rows cols x
+  extra-same x h e l b = ap (λ (t : Bool). cond t 1 0) (collision-same x h l b ∙ ap (collision rows cols x) e)
 
-  pub table_same : (h start pairs : ℕ) → h ≡ suc (largest (take n rows)) → h ≤ 48 → start + 2 * pairs < 160 →
-      table_to start pairs (extra_in used h) ≡ table_to start pairs (extra (take n rows) (take n cols))
+  pub table_same : (h start pairs : ℕ) → h ≡ suc (largest rows) → h ≤ 48 → start + 2 * pairs < 160 →
+      table_to start pairs (extra_in used h) ≡ table_to start pairs (extra rows cols)
   table_same h start pairs e l b =
       ap (λ (t : List ℕ). replicate start 0 ++ t)
-      (new-same (extra_in used h) (extra (take n rows) (take n cols)) pairs start start (λ i k. extra-same i h e l (omega arith)))
+      (new-same (extra_in used h) (extra rows cols) pairs start start (λ i k. extra-same i h e l (omega arith)))

@@ -21,6 +21,7 @@ use Rattle.grid.specs.Heights.{heights}
 use Rattle.grid.specs.Columns.{first_moves, fold_from, average, columns}
 use Rattle.grid.specs.RenderNode.{drawn}
 use Rattle.grid.specs.RenderGrid.{Box, sheet_of, sheet}
+use Rattle.refusals.specs.Refusals.{numbers_of}
 use Rattle.grid.specs.Sheeted.{Sheeted, ready, refusal, sheet_of_dag, sheeted}
 
 data Case : Type 0 where
@@ -34,11 +35,11 @@ box_numbers (b ∷ bs) = b.column ∷ b.row ∷ b.x ∷ b.y ∷ b.width ∷ b.he
 
 abbrev numbers : Sheeted → List ℕ
 numbers (ready s) = s.columns ∷ s.rows ∷ s.width ∷ s.height ∷ length s.boxes ∷ s.cuts ∷ box_numbers s.boxes
-numbers (refusal a b) = a ∷ b ∷ []
+numbers (refusal why) = (numbers_of why).first ∷ (numbers_of why).second ∷ []
 
 abbrev owners : Sheeted → List ℕ
 owners (ready s) = map (λ (b : Box). b.owner) s.boxes
-owners (refusal a b) = []
+owners (refusal why) = []
 
 holds : Case → Bool
 holds (is s x y ns) = same (numbers (sheeted Strict (hex s) x y)) ns

@@ -1,11 +1,11 @@
 -- 'The grid is held as rows of cells': 48 rows of 144 cells, 255 where there is no box.
 -- Assumes nothing.
-use Rattle.std.specs.Prelude.{ℕ, ◌≤◌, ◌<◌, ◌≡◌, cond, ◌&&◌, List, [], leb, ltb, get_or, set, replicate}
+use Rattle.std.specs.Prelude.{ℕ, ◌≤◌, ◌<◌, ◌≡◌, cond, ◌&&◌, List, [], leb, ltb, get_or, set, replicate, Result, Ok, Err}
 use Rattle.laws.specs.Each.{each}
 use Rattle.grid.specs.declared.BoxRecord.{BoxRecord}
 use Rattle.grid.specs.declared.SheetRecord.{SheetRecord}
-use Rattle.chart.specs.declared.Answer.{Answer}
-use Rattle.chart.specs.declared.Answer.TheVariants.{Ready, Refused}
+use Rattle.refusals.specs.declared.Refusal.{Refusal}
+use Rattle.refusals.specs.declared.Refusal.TheVariants.{TooFar}
 use Rattle.grid.specs.Record.{no_box, sound_of}
 
 -- the cell at row r and column c; where there is none, no box
@@ -29,8 +29,8 @@ unfoldable pub cells_in : SheetRecord → List (List ℕ)
 cells_in s = cond (leb s.count 48) (each no_cells (placed s.boxes) s.count) no_cells
 
 -- what `cells` answers, and what the lent grid holds then: 14 for a sheet that is not sound, which writes nothing
-abbrev pub cells_answer : SheetRecord → Answer
-cells_answer s = cond (sound_of s) Ready (Refused 14 0)
+abbrev pub cells_answer : SheetRecord → Result (Unit {0}) Refusal
+cells_answer s = cond (sound_of s) (Ok tt) (Err TooFar)
 
 abbrev pub cells_left : SheetRecord → List (List ℕ) → List (List ℕ)
 cells_left s grid = cond (sound_of s) (cells_in s) grid

@@ -1,14 +1,11 @@
 -- 'A label is an entry of its box's `text`, numbered from 0 in that order.'
 -- Assumes nothing.
-use Rattle.std.specs.Prelude.{ℕ, zero, suc, ◌+◌, true, false, cond, List, [], ◌∷◌, eqb, get_or}
+use Rattle.std.specs.Prelude.{ℕ, zero, suc, ◌+◌, true, false, cond, List, [], ◌∷◌, eqb, get_or, Option, Some, None}
 use Rattle.graph.specs.Graph.{Line, given, number, invalid}
 use Rattle.grid.specs.declared.LabelPlace.{LabelPlace}
 use Rattle.grid.specs.RenderNode.{Text}
 use Rattle.grid.specs.RenderGrid.{Sheet}
 use Rattle.grid.specs.Curves.{no_outputs}
-
-abbrev pub no_label : LabelPlace
-no_label = record { found = false; x = 0; y = 0; size = 0; width = 0; fixed = false; at = 0; len = 0; number = 0 }
 
 -- how wide each character of a label is, by the label's size
 abbrev pub character_width : ℕ → ℕ
@@ -16,19 +13,19 @@ character_width size = cond (eqb size 232) 128 256
 
 -- a part of the chart, or one of the fixed texts: `#0` to `#31`, and `#1(invalid)` to `#255(invalid)` 'after `#31`'
 abbrev pub place_for : ℕ → ℕ → ℕ → ℕ → Line → LabelPlace
-place_for x y size width (given p) = record { found = true; x = x; y = y; size = size; width = width; fixed = false; at = p.at; len = p.len; number = 0 }
-place_for x y size width (number q) = record { found = true; x = x; y = y; size = size; width = width; fixed = true; at = 0; len = 0; number = q }
-place_for x y size width (invalid t) = record { found = true; x = x; y = y; size = size; width = width; fixed = true; at = 0; len = 0; number = t + 31 }
+place_for x y size width (given p) = record { x = x; y = y; size = size; width = width; fixed = false; at = p.at; len = p.len; number = 0 }
+place_for x y size width (number q) = record { x = x; y = y; size = size; width = width; fixed = true; at = 0; len = 0; number = q }
+place_for x y size width (invalid t) = record { x = x; y = y; size = size; width = width; fixed = true; at = 0; len = 0; number = t + 31 }
 
 abbrev pub place_of : Text → LabelPlace
 place_of t = place_for t.x t.y t.size t.width t.line
 
--- entry i of the texts
-abbrev pub label_at : List Text → ℕ → LabelPlace
-label_at [] i = no_label
-label_at (t ∷ ts) zero = place_of t
+-- entry i of the texts, if there is one
+abbrev pub label_at : List Text → ℕ → Option LabelPlace
+label_at [] i = None
+label_at (t ∷ ts) zero = Some (place_of t)
 label_at (t ∷ ts) (suc i) = label_at ts i
 
--- label i of box k of the sheet; all zero where it is not there
-abbrev pub label_of : Sheet → ℕ → ℕ → LabelPlace
+-- label i of box k of the sheet, if it is there
+abbrev pub label_of : Sheet → ℕ → ℕ → Option LabelPlace
 label_of s k i = label_at (get_or s.boxes k no_outputs).texts i

@@ -1,12 +1,12 @@
 -- What is claimed of `sheet`: the box theorem in the chart's own words, of the graph that the walk cut and of the given nodes; soundness; the walks.
 -- Assumes nothing.
-use Rattle.std.specs.Prelude.{ℕ, suc, ◌+◌, ◌*◌, ◌≤◌, ◌<◌, ◌≡◌, true, List, [], ◌∷◌, ◌++◌, map, ltb, length, get_or, replicate}
+use Rattle.std.specs.Prelude.{ℕ, suc, ◌+◌, ◌*◌, ◌≤◌, ◌<◌, ◌≡◌, true, List, [], ◌∷◌, ◌++◌, map, ltb, length, get_or, replicate, Result, Ok, Err}
 use Rattle.std.proofs.Math.Option.{Option, none, some}
 use Rattle.laws.specs.Lists.{All, one, keep}
-use Rattle.chart.specs.declared.Answer.TheVariants.{Ready}
+use Rattle.refusals.specs.Refusals.{numbers_of, numbers_in}
+use Rattle.refusals.specs.declared.Refusal.{Refusal}
 use Rattle.chart.specs.declared.Setting.{Setting}
 use Rattle.chart.specs.Chart.{Part, Board, ready as accepted, chart}
-use Rattle.chart.specs.Read.{numbers, numbers_of}
 use Rattle.graph.specs.Graph.{Line, given, number, invalid, Node, given_graph, node_at}
 use Rattle.graph.specs.Joining.{uncut}
 use Rattle.graph.specs.Cutting.{cutting}
@@ -15,14 +15,13 @@ use Rattle.graph.specs.Laws.{texts_at, Walks}
 use Rattle.graph.specs.Shape.{Shape, shape_of}
 use Rattle.grid.specs.declared.BoxRecord.{BoxRecord}
 use Rattle.grid.specs.declared.SheetRecord.{SheetRecord}
-use Rattle.grid.specs.declared.Outcome.{Outcome}
 use Rattle.grid.specs.Lists.{largest}
 use Rattle.grid.specs.Heights.{walk_from, reached_from}
 use Rattle.grid.specs.RenderNode.{Text, box_width, box_height}
 use Rattle.grid.specs.RenderGrid.{Sheet}
 use Rattle.grid.specs.Record.{boxes_of, sound_of}
 use Rattle.grid.specs.Curves.{no_outputs, record_of}
-use Rattle.grid.specs.Sheeted.{ready, refusal, sheeted, outcome_of}
+use Rattle.grid.specs.Sheeted.{ready, refusal, sheeted, answer_of}
 use Rattle.grid.specs.BoxTheorem.{box, BoxTheorem}
 
 -- the texts that are not empty
@@ -80,13 +79,15 @@ pub record AllWalks (board : Board) : Type 0 where
   pub rows : (p : ℕ) → p < length (shape_cut board) → All (λ (o : Option ℕ). o ≡ some 0 → ⊥) (reached_from (shape_cut board) p)
 
 -- what `sheet` promises, in each setting w, for every byte string s and every origin x y
-pub record IsSheet (w : Setting) (s : List ℕ) (x y : ℕ) (r : Outcome) : Type 0 where
-  -- every field of the answer is the definition's; a refusal is document 01's two numbers
-  pub whole : r ≡ outcome_of x y (sheeted w s x y)
-  pub refused : (number second : ℕ) → sheeted w s x y ≡ refusal number second → numbers_of r.answer ≡ numbers number second
+pub record IsSheet (w : Setting) (s : List ℕ) (x y : ℕ) (r : Result SheetRecord Refusal) : Type 0 where
+  -- every field of the answer is the definition's
+  pub whole : r ≡ answer_of x y (sheeted w s x y)
+  -- a refusal is document 01's first
+  pub refused : (why : Refusal) → sheeted w s x y ≡ refusal why → r ≡ Err why
+  pub numbers : (why : Refusal) → sheeted w s x y ≡ refusal why → numbers_in r ≡ numbers_of why
   -- the sheet that is drawn
-  pub laid : r.answer ≡ Ready → LaidOut w s x y r.sheet
+  pub laid : (sheet : SheetRecord) → r ≡ Ok sheet → LaidOut w s x y sheet
   -- at origin 0 0 no chart that 1 to 13 leave is refused
-  pub at_origin : (d : Dag) → graphed w s ≡ cut d → x ≡ 0 → y ≡ 0 → r.answer ≡ Ready
+  pub at_origin : (d : Dag) → graphed w s ≡ cut d → x ≡ 0 → y ≡ 0 → (sheet : SheetRecord) × (r ≡ Ok sheet)
   -- the walks, also of a board that 13 refuses
   pub walks : (board : Board) → chart w s ≡ accepted board → AllWalks board

@@ -1,10 +1,10 @@
 -- A sheet's record, as a caller holds it.
 -- Assumes nothing.
-use Rattle.std.specs.Prelude.{ℕ, ◌+◌, Bool, cond, ◌&&◌, List, leb, ltb, get_or, take, replicate}
+use Rattle.std.specs.Prelude.{ℕ, ◌+◌, Bool, cond, ◌&&◌, List, leb, ltb, get_or, take, replicate, Result, Ok, Err}
 use Rattle.laws.specs.Bytes.{all_of}
-use Rattle.chart.specs.declared.Answer.TheVariants.{Ready, Refused}
+use Rattle.refusals.specs.declared.Refusal.{Refusal}
+use Rattle.refusals.specs.declared.Refusal.TheVariants.{TooFar, NotThere}
 use Rattle.grid.specs.declared.BoxRecord.{BoxRecord}
-use Rattle.grid.specs.declared.BoxAnswer.{BoxAnswer}
 use Rattle.grid.specs.declared.Curve.{Curve}
 use Rattle.grid.specs.declared.SheetRecord.{SheetRecord}
 
@@ -56,10 +56,6 @@ sound_of s =
     leb s.count 48 && leb s.drawn 88
     && all_of (box_near s.x s.y) (boxes_of s) && all_of (curve_near s.x s.y) (curves_of s)
 
--- refused, the record is the empty one
-abbrev pub refused_box : ℕ → BoxAnswer
-refused_box number = record { answer = Refused number 0; place = no_box }
-
 -- box k: 14 for a sheet that is not sound, 15 for 'a box number that isn't there'
-abbrev pub box_answer_of : SheetRecord → ℕ → BoxAnswer
-box_answer_of s k = cond (sound_of s) (cond (ltb k s.count) (record { answer = Ready; place = get_or s.boxes k no_box }) (refused_box 15)) (refused_box 14)
+abbrev pub box_answer_of : SheetRecord → ℕ → Result BoxRecord Refusal
+box_answer_of s k = cond (sound_of s) (cond (ltb k s.count) (Ok (get_or s.boxes k no_box)) (Err NotThere)) (Err TooFar)

@@ -1,39 +1,23 @@
-// Module 7 of document 01: columns. Box k has column cols[k] and row rows[k], for k below n.
-// A lent array is read as a slice where the proof needs its length, which the prover knows of a slice.
-ghost use Rattle.std.specs.Prelude.{◌≡◌, cond, ◌++◌, map, ℕ, ◌<◌, ◌≤◌, ◌+◌, ◌-◌, ◌*◌, eqb, length, take, drop};
-ghost use Rattle.grid.specs.Lists.{largest, smallest, or_else, total};
-ghost use Rattle.grid.specs.Columns.{at, taken, fold_from, left_end, right_of, clamp, average_to, target, first_move, mean, columns_of, incidents, first_moves, average, round, columns};
+// Module 7 of document 01: columns. Box k has column cols[k] and row rows[k].
+ghost use Rattle.std.specs.Prelude.{◌≡◌, map, ℕ, ◌<◌, ◌≤◌, ◌+◌, ◌*◌, length, take};
+ghost use Rattle.grid.specs.Lists.{largest, smallest, total};
+ghost use Rattle.grid.specs.Columns.{at, taken, fold_from, left_end, right_of, right_end, average_to, target, first_move, mean, columns_of, incidents, first_moves, average, round, columns};
 ghost use Rattle.grid.specs.code.Placed.{FirstColumns};
-ghost use Rattle.grid.specs.code.Leads.{part, shape_in, Led};
 ghost use Rattle.grid.specs.code.Arrays.{Boxes, Inside, Used, word_of, used_in, extra_in, table_to};
 
-// The largest of the first n.
-fn largest_of(xs: &[u8; 48], n: u32) -> u8
-    requires { n ≤ 48 }
-    ensures { result ≡ largest (take n xs.now) }
-{
-    let mut most = 0u8;
-    let mut k = n;
-    while 0 < k {
-        k -= 1;
-        let x = xs[k as usize];
-        if most < x {
-            most = x;
-        }
-    }
-    most
-}
+use crate::leads::Leads;
+use crate::lists::largest_of;
 
 // The word of the table of used columns that has the bit of column x in row r. A row has 160 bits: the last pair may be columns 143 and 144.
-fn word_of(r: u32, x: u8) -> usize
+fn word_of(r: u8, x: u8) -> usize
     requires { (r < 48) × (x < 160) }
     ensures { (result ≡ word_of r x) × (result < 240) }
 {
-    (5 * r + (x / 32) as u32) as usize
+    5 * r as usize + (x / 32) as usize
 }
 
 // Whether row r uses column x, by the table.
-fn is_used(used: &[u32; 240], r: u32, x: u8) -> bool
+fn is_used(used: &[u32; 240], r: u8, x: u8) -> bool
     requires { (r < 48) × (x < 160) }
     ensures { result ≡ used_in used.now r x }
 {
@@ -41,257 +25,180 @@ fn is_used(used: &[u32; 240], r: u32, x: u8) -> bool
 }
 
 // The table of used columns: a column of a row is used exactly if a box of that row stands there.
-fn used_columns(rows: &[u8; 48], cols: &[u8; 48], n: u32) -> [u32; 240]
-    requires { Boxes n rows.now cols.now }
-    ensures { Used n rows.now cols.now result }
+fn used_columns(rows: &[u8], cols: &[u8]) -> [u32; 240]
+    requires { Boxes (length rows.now) rows.now cols.now }
+    ensures { Used rows.now cols.now result }
 {
-    let ys: &[u8] = rows;
-    let xs: &[u8] = cols;
     let mut used = [0u32; 240];
-    let mut k = 0u32;
-    while k < n {
-        let x = xs[k as usize];
-        let i = word_of(ys[k as usize] as u32, x);
-        used[i] = used[i] | (1u32 << (x % 32));
-        k += 1;
+    for (k, x) in cols.iter().enumerate() {
+        let i = word_of(rows[k], *x);
+        used[i] |= 1u32 << (*x % 32);
     }
     used
 }
 
-fn one_if(b: bool) -> u8
-    ensures { result ≡ cond b 1 0 }
-{
-    if b { 1 } else { 0 }
-}
-
 // The new column of each column, for so many pairs from start on. The search through the rows stops at the first collision,
-// which the used columns alone tell.
-fn new_columns(used: &[u32; 240], height: u32, start: u8, pairs: u8) -> [u8; 146]
+// which the used columns alone tell; it yields its value by `break` inside the loop over pairs, as document 01 asks.
+fn new_columns(used: &[u32; 240], height: u8, start: u8, pairs: u8) -> [u8; 146]
     requires { (height ≤ 48) × (start ≤ 1) × (pairs ≤ 72) }
     ensures { take (start + 2 * pairs) result ≡ table_to start pairs (extra_in used.now height) }
 {
     let mut table = [0u8; 146];
     let mut new = start;
-    let mut p = 0u8;
-    while p < pairs {
+    for p in 0..pairs {
         let x = start + 2 * p;
-        let mut row = 0u32;
-        let collision = loop {
-            if height <= row {
-                break false;
+        let collision = 'rows: {
+            for row in 0..height {
+                if is_used(used, row, x) && is_used(used, row, x + 1) {
+                    break 'rows true;
+                }
             }
-            if is_used(used, row, x) && is_used(used, row, x + 1) {
-                break true;
-            }
-            row += 1;
+            false
         };
-        let more = one_if(collision);
+        let more = u8::from(collision);
         let i = x as usize;
         table[i] = new;
         table[i + 1] = new + more;
         new += more + 1;
-        p += 1;
     }
     table
 }
 
-// Each box's column by the table.
-fn rename(cols: &mut [u8; 48], n: u32, table: &[u8; 146])
-    requires n_bound { n ≤ 48 }
-    requires inside { Inside n 146 cols.old }
-    ensures { cols.new ≡ map (at table.now) (take n cols.old) ++ drop n cols.old }
+// Each box's column by the table. (By index: of what `iter_mut` lends the check knows no value.)
+fn rename(cols: &mut [u8], table: &[u8; 146])
+    requires { Inside 146 cols.old }
+    ensures { cols.new ≡ map (at table.now) cols.old }
 {
-    let mut k = 0u32;
-    while k < n {
-        cols[k as usize] = table[cols[k as usize] as usize];
-        k += 1;
+    for k in 0..cols.len() {
+        cols[k] = table[cols[k] as usize];
     }
 }
 
 // A fold from start: columns in pairs, each pair into one new column, or two where a row has both taken. Which columns are used
 // is worked out first, as they stand when the fold begins.
-fn fold(rows: &[u8; 48], cols: &mut [u8; 48], n: u32, start: u8)
-    requires boxes { Boxes n rows.now cols.old }
+fn fold(rows: &[u8], cols: &mut [u8], start: u8)
+    requires boxes { Boxes (length rows.now) rows.now cols.old }
     requires start_bound { start ≤ 1 }
-    ensures { cols.new ≡ fold_from start (take n rows.now) (take n cols.old) ++ drop n cols.old }
+    ensures { cols.new ≡ fold_from start rows.now cols.old }
 {
-    let height = largest_of(rows, n) as u32 + 1;
-    let last = largest_of(cols, n);
+    let height = largest_of(rows) + 1;
+    let last = largest_of(cols);
     let pairs = (last + 2 - start) / 2;
-    let used = used_columns(rows, cols, n);
+    let used = used_columns(rows, cols);
     let table = new_columns(&used, height, start, pairs);
-    rename(cols, n, &table);
+    rename(cols, &table);
 }
 
 // The two folds of a round, from 0 and from 1. `fold` is called in one place, so that its tables share the caller's frame.
-fn folds(rows: &[u8; 48], cols: &mut [u8; 48], n: u32)
-    requires { Boxes n rows.now cols.old }
-    ensures { cols.new ≡ fold_from 1 (take n rows.now) (fold_from 0 (take n rows.now) (take n cols.old)) ++ drop n cols.old }
+fn folds(rows: &[u8], cols: &mut [u8])
+    requires { Boxes (length rows.now) rows.now cols.old }
+    ensures { cols.new ≡ fold_from 1 rows.now (fold_from 0 rows.now cols.old) }
 {
-    let mut start = 0u8;
-    while start < 2 {
-        fold(rows, cols, n, start);
-        start += 1;
+    for start in 0..2 {
+        fold(rows, cols, start);
     }
 }
 
-// The first place after the left neighbour of a box, or 0, and the column of its right neighbour, or 255.
+// Where a box at column x of row r may go.
 #[derive(Clone, Copy)]
-pub struct Neighbours {
+pub struct Room {
     pub low: u8,
-    pub next: u8,
+    pub high: u8,
 }
 
-// The neighbours of column x in row r.
-fn between(rows: &[u8; 48], cols: &[u8; 48], n: u32, r: u8, x: u8) -> Neighbours
-    requires { Boxes n rows.now cols.now }
-    ensures low { result.low ≡ left_end (take n rows.now) (take n cols.now) r x }
-    ensures next { result.next ≡ or_else 255 (right_of (take n rows.now) (take n cols.now) r x) }
+// The first place after the left neighbour, or 0, and the last before the right one, or x where there is none.
+fn room_of(rows: &[u8], cols: &[u8], r: u8, x: u8) -> Room
+    requires boxes { Boxes (length rows.now) rows.now cols.now }
+    requires x_bound { x < 144 }
+    ensures low { result.low ≡ left_end rows.now cols.now r x }
+    ensures high { result.high ≡ right_end x (right_of rows.now cols.now r x) }
 {
-    let ys: &[u8] = rows;
-    let xs: &[u8] = cols;
     let mut low = 0u8;
-    let mut next = 255u8;
-    let mut k = n;
-    while 0 < k {
-        k -= 1;
-        if ys[k as usize] == r {
-            let c = xs[k as usize];
-            if c < x {
-                if low <= c {
-                    low = c + 1;
-                }
-            } else if x < c {
-                if c < next {
-                    next = c;
-                }
+    let mut next: Option<u8> = None;
+    for (k, c) in cols.iter().enumerate() {
+        if rows[k] == r {
+            if *c < x {
+                low = low.max(*c + 1);
+            } else if x < *c {
+                next = Some(next.unwrap_or(*c).min(*c));
             }
         }
     }
-    Neighbours {
-        low: low,
-        next: next,
+    Room {
+        low,
+        high: next.unwrap_or(x + 1) - 1,
     }
-}
-
-// The last place before the right neighbour, or x where there is none.
-fn right_end(next: u8, x: u8) -> u8
-    requires { x < next }
-    ensures { result ≡ cond (eqb next 255) x (next - 1) }
-{
-    if next == 255 { x } else { next - 1 }
-}
-
-fn clamped(low: u8, high: u8, x: u8) -> u8
-    requires { low ≤ high }
-    ensures { result ≡ clamp low high x }
-{
-    if x < low {
-        return low;
-    }
-    if high < x {
-        return high;
-    }
-    x
 }
 
 // Box p, which would go to column wanted, goes there, clamped between its neighbours.
-fn average_to(rows: &[u8; 48], cols: &mut [u8; 48], n: u32, p: u32, wanted: u8)
-    requires boxes { Boxes n rows.now cols.old }
-    requires p_lt_n { p < n }
-    ensures { cols.new ≡ average_to (take n rows.now) p wanted (take n cols.old) ++ drop n cols.old }
+fn average_to(rows: &[u8], cols: &mut [u8], p: usize, wanted: u8)
+    requires boxes { Boxes (length rows.now) rows.now cols.old }
+    requires p_lt_n { p < length rows.now }
+    ensures { cols.new ≡ average_to rows.now p wanted cols.old }
 {
-    let i = p as usize;
-    let x = cols[i];
-    let free = between(rows, cols, n, rows[i], x);
-    let high = right_end(free.next, x);
-    cols[i] = clamped(free.low, high, wanted);
+    let room = room_of(rows, cols, rows[p], cols[p]);
+    cols[p] = wanted.min(room.high).max(room.low);
 }
 
-// The sum of the columns of those from a up to b, which are b - a.
-fn sum_of(to: &[u8; 176], a: u32, b: u32, cols: &[u8; 48], n: u32) -> u32
-    requires a_le_b { (a ≤ b) × (b ≤ 176) × (n ≤ 48) }
-    requires by_index { ((k : ℕ) → k < b → at to.now k < n) × Inside n 144 cols.now }
-    ensures value { (result ≡ total (map (at cols.now) (part to.now a b))) × (result ≤ 144 * (b - a)) }
-    ensures b_len { length (part to.now a b) ≡ b - a }
+// The sum of the columns of these nodes.
+fn sum_of(nodes: &[u8], cols: &[u8]) -> u32
+    requires few { length nodes.now ≤ 176 }
+    requires inside { Inside (length cols.now) nodes.now × Inside 144 cols.now }
+    ensures { (result ≡ total (columns_of cols.now nodes.now)) × (result ≤ 144 * length nodes.now) }
 {
-    let all: &[u8] = to;
-    let mut s = 0u32;
-    let mut k = b;
-    while a < k {
-        k -= 1;
-        s += cols[all[k as usize] as usize] as u32;
+    let mut sum = 0u32;
+    for q in nodes {
+        sum += cols[*q as usize] as u32;
     }
-    s
+    sum
 }
 
 // The mean column of the incidents of node p.
-fn wanted(to: &[u8; 176], bounds: &[u8; 97], p: u32, cols: &[u8; 48], n: u32) -> u8
-    requires led { Led n to.now bounds.now }
-    requires inside { Inside n 144 cols.now }
-    requires p_lt_n { p < n }
-    ensures { result ≡ mean (columns_of (take n cols.now) (incidents (shape_in n to.now bounds.now) p)) }
+fn wanted(leads: &Leads, cols: &[u8], p: usize) -> u8
+    requires cols { (length cols.now ≡ length leads.now) × Inside 144 cols.now }
+    requires p_lt_n { p < length leads.now }
+    ensures { result ≡ mean (columns_of cols.now (incidents leads.now p)) }
 {
-    let i = 2 * p as usize;
-    let a = bounds[i] as u32;
-    let b = bounds[i + 2] as u32;
-    if a == b {
+    let nodes = leads.incidents(p);
+    if nodes.is_empty() {
         return 0;
     }
-    (sum_of(to, a, b, cols, n) / (b - a)) as u8
+    (sum_of(nodes, cols) / nodes.len() as u32) as u8
 }
 
 // Averaging, nodes rising.
-fn average_all(to: &[u8; 176], bounds: &[u8; 97], rows: &[u8; 48], cols: &mut [u8; 48], n: u32)
-    requires led { Led n to.now bounds.now }
-    requires boxes { Boxes n rows.now cols.old }
-    ensures { cols.new ≡ average (shape_in n to.now bounds.now) (take n rows.now) (take n cols.old) ++ drop n cols.old }
+fn average_all(leads: &Leads, rows: &[u8], cols: &mut [u8])
+    requires { Boxes (length leads.now) rows.now cols.old }
+    ensures { cols.new ≡ average leads.now rows.now cols.old }
 {
-    let mut p = 0u32;
-    while p < n {
-        let w = wanted(to, bounds, p, cols, n);
-        average_to(rows, cols, n, p, w);
-        p += 1;
+    for p in 0..leads.nodes() {
+        let w = wanted(leads, cols, p);
+        average_to(rows, cols, p, w);
     }
 }
 
-// The smallest of the columns of those from a up to b, and of most.
-fn smallest_end(to: &[u8; 176], a: u32, b: u32, cols: &[u8; 48], n: u32, most: u8) -> u8
-    requires a_le_b { (a ≤ b) × (b ≤ 176) × (n ≤ 48) }
-    requires by_index { (k : ℕ) → k < b → at to.now k < n }
-    ensures { result ≡ smallest most (map (at cols.now) (part to.now a b)) }
+// The smallest of the columns of these nodes, and of most.
+fn smallest_end(nodes: &[u8], cols: &[u8], most: u8) -> u8
+    requires { Inside (length cols.now) nodes.now }
+    ensures { result ≡ smallest most (columns_of cols.now nodes.now) }
 {
-    let all: &[u8] = to;
-    let mut v = most;
-    let mut k = b;
-    while a < k {
-        k -= 1;
-        let c = cols[all[k as usize] as usize];
-        if c < v {
-            v = c;
-        }
+    let mut least = most;
+    for q in nodes {
+        least = least.min(cols[*q as usize]);
     }
-    v
+    least
 }
 
-// The largest of the columns of those from a up to b, which are b - a.
-fn largest_end(to: &[u8; 176], a: u32, b: u32, cols: &[u8; 48], n: u32) -> u8
-    requires a_le_b { (a ≤ b) × (b ≤ 176) × (n ≤ 48) }
-    requires by_index { (k : ℕ) → k < b → at to.now k < n }
-    ensures value { result ≡ largest (map (at cols.now) (part to.now a b)) }
-    ensures b_len { length (part to.now a b) ≡ b - a }
+// The largest of the columns of these nodes. (No twin of smallest_end: that one begins at a bound.)
+fn largest_end(nodes: &[u8], cols: &[u8]) -> u8
+    requires { Inside (length cols.now) nodes.now }
+    ensures { result ≡ largest (columns_of cols.now nodes.now) }
 {
-    let all: &[u8] = to;
-    let mut v = 0u8;
-    let mut k = b;
-    while a < k {
-        k -= 1;
-        let c = cols[all[k as usize] as usize];
-        if v < c {
-            v = c;
-        }
+    let mut most = 0u8;
+    for q in nodes {
+        most = most.max(cols[*q as usize]);
     }
-    v
+    most
 }
 
 // Where a box at pos goes whose incidents have columns from low to high.
@@ -300,105 +207,68 @@ fn target_of(pos: u8, low: u8, high: u8) -> u8
     ensures { result ≡ target pos low high }
 {
     if pos + 2 < low {
-        return low + 1;
+        low + 1
+    } else if low < pos && high + 2 < pos {
+        high.saturating_sub(1)
+    } else {
+        pos
     }
-    if pos <= low {
-        return pos;
-    }
-    if pos <= high + 2 {
-        return pos;
-    }
-    if high == 0 {
-        return 0;
-    }
-    high - 1
 }
 
 // Whether some box has row r and column x.
-fn is_taken(rows: &[u8; 48], cols: &[u8; 48], n: u32, r: u8, x: u8) -> bool
-    requires { n ≤ 48 }
-    ensures { result ≡ taken (take n rows.now) (take n cols.now) r x }
+fn is_taken(rows: &[u8], cols: &[u8], r: u8, x: u8) -> bool
+    ensures { result ≡ taken rows.now cols.now r x }
 {
-    let ys: &[u8] = rows;
-    let xs: &[u8] = cols;
-    let mut k = 0u32;
-    while k < n {
-        if ys[k as usize] == r && xs[k as usize] == x {
-            return true;
-        }
-        k += 1;
-    }
-    false
+    rows.iter().zip(cols).any(|(y, c)| *y == r && *c == x)
 }
 
 // The first move of node p, if it has two incidents or more and the place is free.
-fn first_move(
-    to: &[u8; 176],
-    bounds: &[u8; 97],
-    rows: &[u8; 48],
-    cols: &mut [u8; 48],
-    n: u32,
-    p: u32,
-)
-    requires led { Led n to.now bounds.now }
-    requires boxes { Boxes n rows.now cols.old }
-    requires p_lt_n { p < n }
-    ensures { cols.new ≡ first_move (shape_in n to.now bounds.now) (take n rows.now) p (take n cols.old) ++ drop n cols.old }
+fn first_move(leads: &Leads, rows: &[u8], cols: &mut [u8], p: usize)
+    requires boxes { Boxes (length leads.now) rows.now cols.old }
+    requires p_lt_n { p < length leads.now }
+    ensures { cols.new ≡ first_move leads.now rows.now p cols.old }
 {
-    let i = p as usize;
-    let a = bounds[2 * i] as u32;
-    let b = bounds[2 * i + 2] as u32;
-    if b < a + 2 {
+    let nodes = leads.incidents(p);
+    if nodes.len() < 2 {
         return;
     }
-    let high = largest_end(to, a, b, cols, n);
-    let low = smallest_end(to, a, b, cols, n, high);
-    let goal = target_of(cols[i], low, high);
-    if is_taken(rows, cols, n, rows[i], goal) {
-        return;
+    let high = largest_end(nodes, cols);
+    let low = smallest_end(nodes, cols, high);
+    let goal = target_of(cols[p], low, high);
+    if !is_taken(rows, cols, rows[p], goal) {
+        cols[p] = goal;
     }
-    cols[i] = goal;
 }
 
 // The first moves, nodes rising.
-fn first_moves(to: &[u8; 176], bounds: &[u8; 97], rows: &[u8; 48], cols: &mut [u8; 48], n: u32)
-    requires led { Led n to.now bounds.now }
-    requires inside { (Inside n 48 rows.now) × (FirstColumns n (take n cols.old)) }
-    ensures { cols.new ≡ first_moves (shape_in n to.now bounds.now) (take n rows.now) (take n cols.old) ++ drop n cols.old }
+fn first_moves(leads: &Leads, rows: &[u8], cols: &mut [u8])
+    requires rows { (length rows.now ≡ length leads.now) × Inside 48 rows.now }
+    requires first { FirstColumns (length leads.now) cols.old }
+    ensures moved { cols.new ≡ first_moves leads.now rows.now cols.old }
+    ensures boxes { Boxes (length leads.now) rows.now cols.new }
 {
-    let mut p = 0u32;
-    while p < n {
-        first_move(to, bounds, rows, cols, n, p);
-        p += 1;
+    for p in 0..leads.nodes() {
+        first_move(leads, rows, cols, p);
     }
 }
 
 // One of the 8 rounds: fold from 0, fold from 1, average.
-fn round(to: &[u8; 176], bounds: &[u8; 97], rows: &[u8; 48], cols: &mut [u8; 48], n: u32)
-    requires led { Led n to.now bounds.now }
-    requires boxes { Boxes n rows.now cols.old }
-    ensures { cols.new ≡ round (shape_in n to.now bounds.now) (take n rows.now) (take n cols.old) ++ drop n cols.old }
+fn round(leads: &Leads, rows: &[u8], cols: &mut [u8])
+    requires { Boxes (length leads.now) rows.now cols.old }
+    ensures { cols.new ≡ round leads.now rows.now cols.old }
 {
-    folds(rows, cols, n);
-    average_all(to, bounds, rows, cols, n);
+    folds(rows, cols);
+    average_all(leads, rows, cols);
 }
 
-// Module 7: the columns of n boxes, from their rows and, in cols, their first columns.
-pub fn columns<'a>(
-    to: &'a [u8; 176],
-    bounds: &'a [u8; 97],
-    rows: &[u8; 48],
-    cols: &mut [u8; 48],
-    n: u32,
-)
-    requires led { Led n to.now bounds.now }
-    requires inside { (Inside n 48 rows.now) × (FirstColumns n (take n cols.old)) }
-    ensures { cols.new ≡ columns (shape_in n to.now bounds.now) (take n rows.now) (take n cols.old) ++ drop n cols.old }
+// Module 7: the columns of the boxes, from their rows and, in cols, their first columns.
+pub fn columns(leads: &Leads, rows: &[u8], cols: &mut [u8])
+    requires rows { (length rows.now ≡ length leads.now) × Inside 48 rows.now }
+    requires first { FirstColumns (length leads.now) cols.old }
+    ensures { cols.new ≡ columns leads.now rows.now cols.old }
 {
-    first_moves(to, bounds, rows, cols, n);
-    let mut k = 0u32;
-    while k < 8 {
-        round(to, bounds, rows, cols, n);
-        k += 1;
+    first_moves(leads, rows, cols);
+    for _k in 0..8u8 {
+        round(leads, rows, cols);
     }
 }

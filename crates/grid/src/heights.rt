@@ -1,9 +1,9 @@
-// Module 6 of document 01: heights. A walk with an explicit path, from row 0: its rows are signed. Rows that are done are held as the row and one, 0 for none.
-ghost use Rattle.std.specs.Prelude.{◌≡◌, ◌<◌, ◌≤◌, ◌+◌, ◌-◌, drop, replicate, ◌++◌, map, nat_abs};
-ghost use Rattle.grid.specs.Lists.{or_else};
+// Module 6 of document 01: heights. A walk with an explicit path, from row 0: its rows are signed.
+ghost use Rattle.std.specs.Prelude.{◌≡◌, ◌<◌, ◌≤◌, ◌-◌, length, replicate, ◌++◌, nat_abs, None};
 ghost use Rattle.grid.specs.Heights.{reached_from, lowered, fresh, start, heights};
-ghost use Rattle.grid.specs.code.Leads.{shape_in, Led};
-ghost use Rattle.grid.specs.code.Walk.{signed_by, row_in, rows_of, reached_in, raised, lesser_of, lower_by, renumbered_of, Above, AllNear, IsLeast};
+ghost use Rattle.grid.specs.code.Walk.{signed_by, rows_of, reached_in, raised, AllNear, IsLeast};
+
+use crate::leads::Leads;
 
 // A node on the path, its row, and the place where it looks next among those that it leads to: sources first, then sinks.
 #[derive(Clone, Copy)]
@@ -13,199 +13,111 @@ pub struct Frame {
     pub at: u8,
 }
 
-// What a walk reaches: which nodes have a row, and which row.
-#[derive(Clone, Copy)]
-pub struct Reached {
-    pub seen: [bool; 48],
-    pub rows: [i8; 48],
-}
-
 // Sources are a row above, sinks a row below.
 fn row_by(up: bool, row: i8) -> i8
     requires { nat_abs row < 96 }
     ensures { result ≡ signed_by up row }
 {
-    if up {
-        return row - 1;
-    }
-    row + 1
+    if up { row - 1 } else { row + 1 }
 }
 
-// The walk from p, to its end. The path is the first depth frames; one step: its last node looks at the next that it leads to, or leaves the path where there is none.
-fn walk_from(to: &[u8; 176], bounds: &[u8; 97], n: usize, p: u8) -> Reached
-    requires led { Led n to.now bounds.now }
-    requires p_lt_n { p < n }
-    ensures { reached_in n result.seen result.rows ≡ reached_from (shape_in n to.now bounds.now) p }
+// The walk from p, to its end: the rows that it gives. The path is the first depth frames (a table has no way to take its last one away); one step: its last node looks at the next that it leads to, or leaves the path where there is none.
+fn walk_from(leads: &Leads, p: u8, rows: &mut [Option<i8>])
+    requires few { length leads.now ≤ 48 }
+    requires p_lt_n { p < length leads.now }
+    requires none { rows.old ≡ replicate (length leads.now) None }
+    ensures { reached_in (length leads.now) rows.new ≡ reached_from leads.now p }
 {
-    // A slice, whose length the proof knows.
-    let ends: &[u8] = to;
-    let first = p as usize;
-    let mut seen = [false; 48];
-    let mut rows = [0i8; 48];
-    seen[first] = true;
+    rows[p as usize] = Some(0);
     let mut frames = [Frame {
-        node: 0,
+        node: p,
         row: 0,
         at: 0,
     }; 48];
-    frames[0] = Frame {
-        node: p,
-        row: 0,
-        at: bounds[2 * first],
-    };
     let mut depth = 1usize;
     while 0 < depth {
         let top = depth - 1;
         let f = frames[top];
         let node = f.node as usize;
-        if bounds[2 * node + 2] <= f.at {
+        let nodes = leads.incidents(node);
+        if nodes.len() <= f.at as usize {
             depth = top;
             continue;
         }
-        frames[top] = Frame {
-            node: f.node,
-            row: f.row,
-            at: f.at + 1,
-        };
-        let next = ends[f.at as usize];
-        let q = next as usize;
-        if seen[q] {
+        frames[top] = Frame { at: f.at + 1, ..f };
+        let next = nodes[f.at as usize];
+        if rows[next as usize].is_some() {
             continue;
         }
-        let row = row_by(f.at < bounds[2 * node + 1], f.row);
-        seen[q] = true;
-        rows[q] = row;
+        let up = (f.at as usize) < leads.sources(node);
+        let row = row_by(up, f.row);
+        rows[next as usize] = Some(row);
         frames[depth] = Frame {
             node: next,
-            row: row,
-            at: bounds[2 * q],
+            row,
+            at: 0,
         };
         depth += 1;
     }
-    Reached {
-        seen: seen,
-        rows: rows,
-    }
-}
-
-// The smaller of m and the row, if there is one.
-fn lesser(seen: bool, row: i8, m: i8) -> i8
-    ensures { result ≡ lesser_of seen row m }
-{
-    if seen {
-        if m < row {
-            return m;
-        }
-        return row;
-    }
-    m
 }
 
 // The least row, or 0.
-fn least_row(seen: [bool; 48], rows: [i8; 48], n: usize) -> i8
-    requires { (n ≤ 48) × AllNear n seen rows }
-    ensures { IsLeast n (reached_in n seen rows) result }
+fn least_row(walked: &[Option<i8>]) -> i8
+    requires { (length walked.now ≤ 48) × AllNear (length walked.now) walked.now }
+    ensures { IsLeast (length walked.now) (reached_in (length walked.now) walked.now) result }
 {
-    let mut m = 0i8;
-    let mut k = n;
-    while 0 < k {
-        k -= 1;
-        m = lesser(seen[k], rows[k], m);
+    let mut least = 0i8;
+    for row in walked {
+        if let Some(r) = row {
+            least = least.min(*r);
+        }
     }
-    m
+    least
 }
 
-// The row lowered by m, and one; 0 without a row.
-fn lower_one(seen: bool, row: i8, m: i8) -> u8
-    requires { Above seen row m }
-    ensures { result ≡ lower_by seen row m 0 }
+// All that have a row in walked are lowered by m; the others keep theirs.
+fn lower_all(walked: &[Option<i8>], m: i8, rows: &mut [Option<u8>])
+    requires long { (length walked.now ≤ 48) × (length rows.old ≡ length walked.now) }
+    requires walk { AllNear (length walked.now) walked.now × IsLeast (length walked.now) (reached_in (length walked.now) walked.now) m }
+    ensures { rows_of rows.new ≡ lowered (raised (length walked.now) m) (reached_in (length walked.now) walked.now) (rows_of rows.old) }
 {
-    if seen {
-        let d = row - m;
-        return d as u8 + 1;
+    for (k, row) in walked.iter().enumerate() {
+        if let Some(r) = row {
+            rows[k] = Some(r.abs_diff(m));
+        }
     }
-    0
-}
-
-// A new row takes the place of the old one.
-fn renumbered(new: u8, old: u8) -> u8
-    ensures { result ≡ renumbered_of new old }
-{
-    if new == 0 {
-        return old;
-    }
-    new
-}
-
-// All that have a row in seen are lowered by m; the others keep theirs.
-fn lower_all(seen: [bool; 48], walked: [i8; 48], rows: [u8; 48], n: usize, m: i8) -> [u8; 48]
-    requires { (n ≤ 48) × AllNear n seen walked × IsLeast n (reached_in n seen walked) m }
-    ensures { (rows_of n result ≡ lowered (raised n m) (reached_in n seen walked) (rows_of n rows)) × (drop n result ≡ drop n rows) }
-{
-    let mut moved = rows;
-    let mut k = n;
-    while 0 < k {
-        k -= 1;
-        let z = lower_one(seen[k], walked[k], m);
-        moved[k] = renumbered(z, rows[k]);
-    }
-    moved
 }
 
 // Node p: if it has no row, a walk from it, lowered.
-fn turn(to: &[u8; 176], bounds: &[u8; 97], n: usize, rows: [u8; 48], p: u8) -> [u8; 48]
-    requires led { Led n to.now bounds.now }
-    requires p_lt_n { p < n }
-    ensures { (rows_of n result ≡ start (fresh (rows_of n rows) p) (shape_in n to.now bounds.now) p (rows_of n rows)) × (drop n result ≡ drop n rows) }
+fn turn(leads: &Leads, p: u8, rows: &mut [Option<u8>])
+    requires few { length leads.now ≤ 48 }
+    requires long { length rows.old ≡ length leads.now }
+    requires p_lt_n { p < length leads.now }
+    ensures { rows_of rows.new ≡ start (fresh (rows_of rows.old) p) leads.now p (rows_of rows.old) }
 {
-    let at = p as usize;
-    if rows[at] != 0 {
-        return rows;
+    if rows[p as usize].is_some() {
+        return;
     }
-    let s = walk_from(to, bounds, n, p);
-    let seen = s.seen;
-    let walked = s.rows;
-    let m = least_row(seen, walked, n);
-    let next = lower_all(seen, walked, rows, n, m);
-    next
+    let mut none = [None; 48];
+    let walked = &mut none[..rows.len()];
+    walk_from(leads, p, walked);
+    let m = least_row(walked);
+    lower_all(walked, m, rows);
 }
 
-fn without_one(x: u8) -> u8
-    ensures { result ≡ or_else 0 (row_in x) }
+// Module 6: the heights of the nodes.
+pub fn heights(leads: &Leads) -> [u8; 48]
+    ensures { result ≡ heights leads.now ++ replicate (48 - length leads.now) 0 }
 {
-    if x == 0 {
-        return 0;
+    let n = leads.nodes();
+    let mut none = [None; 48];
+    let rows = &mut none[..n];
+    for p in 0..n {
+        turn(leads, p as u8, rows);
     }
-    x - 1
-}
-
-// The rows as numbers.
-fn numbers(rows: [u8; 48], n: usize) -> [u8; 48]
-    requires { n ≤ 48 }
-    ensures { result ≡ map (or_else 0) (rows_of n rows) ++ drop n rows }
-{
-    let mut moved = rows;
-    let mut k = n;
-    while 0 < k {
-        k -= 1;
-        let z = without_one(rows[k]);
-        moved[k] = z;
+    let mut numbers = [0u8; 48];
+    for (k, row) in rows.iter().enumerate() {
+        numbers[k] = row.unwrap_or(0);
     }
-    moved
-}
-
-// Module 6: the heights of n nodes.
-pub fn heights<'a>(to: &'a [u8; 176], bounds: &'a [u8; 97], n: usize) -> [u8; 48]
-    requires { Led n to.now bounds.now }
-    ensures { result ≡ heights (shape_in n to.now bounds.now) ++ replicate (48 - n) 0 }
-{
-    let mut rows = [0u8; 48];
-    let mut p = 0usize;
-    while p < n {
-        let next = turn(to, bounds, n, rows, p as u8);
-        rows = next;
-        p += 1;
-    }
-    let r = numbers(rows, n);
-    r
+    numbers
 }

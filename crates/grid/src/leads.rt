@@ -1,57 +1,97 @@
 // Where the sources and the sinks of each node lead, for the stages that go through them node by node.
-ghost use Rattle.std.specs.Prelude.{◌≡◌, ◌+◌, ◌≤◌, length};
+ghost use Rattle.std.specs.Prelude.{◌≡◌, ◌+◌, ◌≤◌, ◌<◌, length};
 ghost use Rattle.std.proofs.lemmas.List.Edits.{sets};
-ghost use Rattle.graph.specs.Ends.{ends_of, shape_from, Linked};
-ghost use Rattle.grid.specs.code.Leads.{shape_in, Led};
+ghost use Rattle.graph.specs.Ends.{targets_of, shape_from, Linked};
+ghost use Rattle.graph.specs.Shape.{incidents_at};
+ghost use Rattle.grid.specs.Columns.{incidents};
+ghost use Rattle.grid.specs.code.Arrays.{Inside};
 
-use graph::Ends;
+use graph::{Ends, Lead};
+use std::marker::Model;
 
-// The sources of node p stand from bounds[2 p] up to bounds[2 p + 1], its sinks from there up to bounds[2 p + 2].
-#[derive(Clone, Copy)]
+// The sources of node p stand from bounds[2 p] up to bounds[2 p + 1], its sinks from there up to bounds[2 p + 2]. A contract sees the shape that this holds.
+#[derive(Drop)]
 pub struct Leads {
-    pub to: [u8; 176],
-    pub bounds: [u8; 97],
+    nodes: usize,
+    to: [u8; 176],
+    bounds: [u8; 97],
+}
+
+impl Model for Leads {
+    ghost use Rattle.graph.specs.Shape.{Shape};
+    ghost use Rattle.grid.specs.code.Leads.{shape_in, Led};
+
+    ghost Value = { Shape };
+
+    ghost view = { λ l. shape_in l.nodes l.to l.bounds };
+
+    ghost invariant = { λ l. Led l.nodes l.to l.bounds };
+}
+
+impl Leads {
+    // How many nodes there are.
+    pub fn nodes(&self) -> usize
+        ensures { (result ≡ length self.now) × (result ≤ 48) }
+    {
+        self.nodes
+    }
+
+    // The nodes that node p leads to: its sources, then its sinks.
+    pub fn incidents(&self, p: usize) -> &[u8]
+        requires { p < length self.now }
+        ensures are { result.now ≡ incidents self.now p }
+        ensures few { length result.now ≤ 176 }
+        ensures nodes { Inside (length self.now) result.now }
+    {
+        let bounds = &self.bounds;
+        let from = bounds[2 * p] as usize;
+        let end = bounds[2 * p + 2] as usize;
+        &self.to[from..end]
+    }
+
+    // How many of them are sources.
+    pub fn sources(&self, p: usize) -> usize
+        requires { p < length self.now }
+        ensures { result ≡ length (incidents_at self.now p).sources }
+    {
+        let bounds = &self.bounds;
+        (bounds[2 * p + 1] - bounds[2 * p]) as usize
+    }
 }
 
 // The ends of node p, put from k on. Answers where they end.
-fn put_ends(e: Ends, p: u8, to: &mut [u8; 176], k: usize) -> usize
-    requires count_bound { e.count ≤ 88 }
-    requires p_bound { k + length (ends_of e p) ≤ 176 }
-    ensures to { to.new ≡ sets to.old k (ends_of e p) }
-    ensures end { result ≡ k + length (ends_of e p) }
+fn put_ends(leads: &[Lead], p: u8, to: &mut [u8; 176], k: usize) -> usize
+    requires { k + length (targets_of p leads.now) ≤ 176 }
+    ensures to { to.new ≡ sets to.old k (targets_of p leads.now) }
+    ensures end { result ≡ k + length (targets_of p leads.now) }
 {
-    let last = e.count as u32;
-    let mut end = k as u32;
-    let mut j = 0u32;
-    while j < last {
-        if e.owner[j as usize] == p {
-            to[end as usize] = e.to[j as usize];
+    let mut end = k;
+    for l in leads {
+        if l.owner == p {
+            to[end] = l.to;
             end += 1;
         }
-        j += 1;
     }
-    end as usize
+    end
 }
 
 // The sources and the sinks of n nodes.
-pub fn leads_of(sources: Ends, sinks: Ends, n: usize) -> Leads
-    requires { (Linked n sources) × (Linked n sinks) }
-    ensures shape { shape_in n result.to result.bounds ≡ shape_from n sources sinks }
-    ensures led { Led n result.to result.bounds }
+pub fn leads_of(sources: &Ends, sinks: &Ends, n: usize) -> Leads
+    requires { Linked n sources.now × Linked n sinks.now }
+    ensures { result ≡ shape_from n sources.now sinks.now }
 {
     let mut to = [0u8; 176];
     let mut bounds = [0u8; 97];
-    let mut end = 0usize;
-    let mut p = 0usize;
-    while p < n {
-        let mid = put_ends(sources, p as u8, &mut to, end);
+    let mut end = 0;
+    for p in 0..n {
+        let mid = put_ends(sources.as_slice(), p as u8, &mut to, end);
         bounds[2 * p + 1] = mid as u8;
-        end = put_ends(sinks, p as u8, &mut to, mid);
+        end = put_ends(sinks.as_slice(), p as u8, &mut to, mid);
         bounds[2 * p + 2] = end as u8;
-        p += 1;
     }
     Leads {
-        to: to,
-        bounds: bounds,
+        nodes: n,
+        to,
+        bounds,
     }
 }

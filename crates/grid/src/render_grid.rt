@@ -1,241 +1,201 @@
 // The sheet, as `RenderGrid::new` has it, and its curves.
-ghost use Rattle.std.specs.Prelude.{◌≡◌, ℕ, ◌+◌, ◌<◌, ◌≤◌, length, get_or, take, replicate};
-ghost use Rattle.laws.specs.Lists.{All};
+ghost use Rattle.std.specs.Prelude.{◌≡◌, ℕ, ◌+◌, ◌<◌, ◌≤◌, map, length, get_or, take, replicate};
+ghost use Rattle.laws.specs.Lists.{All, padded};
 ghost use Rattle.laws.specs.Each.{each};
-ghost use Rattle.graph.specs.code.Tables.{owned, items_of, mark_of, graph_of, Aimed};
-ghost use Rattle.grid.specs.Lists.{largest};
-ghost use Rattle.grid.specs.RenderGrid.{extent as extent_of, sheet_of};
+ghost use Rattle.graph.specs.Graph.{node_at};
+ghost use Rattle.graph.specs.code.Tables.{owned, items_of, mark_of, name_line, graph_of, Aimed};
+ghost use Rattle.grid.specs.Record.{no_box};
+ghost use Rattle.grid.specs.RenderGrid.{begins, extent as extent_of, owner_in, sheet_of};
 ghost use Rattle.grid.specs.Curves.{output_at, first_to, output_for, record_of};
-ghost use Rattle.grid.specs.code.Rendered.{Seated};
-ghost use Rattle.grid.specs.code.Laid.{Bounded, sizes_in, begins_to, owner_by, boxes_from, run_at, Movable, Low, found_of, laid_outputs, no_curves, curves_at};
+ghost use Rattle.grid.specs.code.Rendered.{Seated, Modest, render_of};
+ghost use Rattle.grid.specs.code.Laid.{Bounded, line_of, size_of, gap_of, begins_to, no_sides, sized_in, sides_in, placed_at, moved as moved_to, Near, Low, found_of, laid_outputs, inputs_in, outputs_in, no_curves, curves_at};
 
-use crate::record::no_box;
-use crate::render_node::{Run, render_nodes};
+use crate::lists::largest_of;
+use crate::render_node::{Run, Sides, node_of};
 use crate::{BoxRecord, Curve, NO_OWNER, SheetRecord};
-use graph::{Table, Tables};
+use graph::{Items, Name, Tables};
+use tables::Table;
 
-// The first drawn curves.
+// The sheet's two directions: its columns go across it, and its rows down it.
 #[derive(Clone, Copy)]
-pub struct Curves {
-    pub curves: [Curve; 88],
-    pub drawn: u8,
+enum Axis {
+    Across,
+    Down,
 }
 
-// The x of an output point, if there is one.
-#[derive(Clone, Copy)]
-pub enum Found {
-    At(u32),
-    Nothing,
-}
-
-// The largest of the first n.
-fn largest_of(xs: &[u8], n: usize) -> u8
-    requires { n ≤ length xs.now }
-    ensures { result ≡ largest (take n xs.now) }
-{
-    let mut most: u8 = 0;
-    let mut k = n;
-    while 0 < k {
-        k -= 1;
-        let x = xs[k];
-        if most < x {
-            most = x;
+impl Axis {
+    // The line that a box stands in: its column, or its row.
+    fn line(self, b: &BoxRecord) -> u8
+        ensures { result ≡ line_of self b.now }
+    {
+        match self {
+            Axis::Across => b.column,
+            Axis::Down => b.row,
         }
     }
-    most
-}
 
-// The largest size of the boxes in line c: their widths (field 0) or their heights (1).
-fn extent(places: &[u8; 48], nodes: &[u32; 384], field: usize, n: usize, c: u8) -> u32
-    requires n_bound { n ≤ 48 }
-    requires n_in_bounds { n ≤ length places.now }
-    requires field_bound { field < 8 }
-    ensures { result ≡ extent_of (take n places.now) (sizes_in nodes.now field n) c }
-{
-    let mut most: u32 = 0;
-    let mut k = n;
-    while 0 < k {
-        k -= 1;
-        if places[k] == c {
-            let size = nodes[8 * k + field];
-            if most < size {
-                most = size;
+    // Its width, or its height.
+    fn size(self, b: &BoxRecord) -> u32
+        ensures { result ≡ size_of self b.now }
+    {
+        match self {
+            Axis::Across => b.width,
+            Axis::Down => b.height,
+        }
+    }
+
+    // The space between two lines.
+    fn gap(self) -> u32
+        ensures { result ≡ gap_of self }
+    {
+        match self {
+            Axis::Across => 1024,
+            Axis::Down => 2048,
+        }
+    }
+
+    // The largest size of the boxes in line c.
+    fn extent(self, boxes: &[BoxRecord], c: u8) -> u32
+        ensures { result ≡ extent_of (map (line_of self) boxes.now) (map (size_of self) boxes.now) c }
+    {
+        let mut most = 0u32;
+        for b in boxes {
+            if self.line(b) == c {
+                most = most.max(self.size(b));
             }
         }
+        most
     }
-    most
-}
 
-// Where each of so many lines begins: PAD, and before it each line's size and the gap.
-fn line_begins(
-    places: &[u8; 48],
-    nodes: &[u32; 384],
-    field: usize,
-    n: usize,
-    gap: u32,
-    lines: u8,
-    starts: &mut [u32; 144],
-)
-    requires n_bound { n ≤ 48 }
-    requires n_in_bounds { n ≤ length places.now }
-    requires field_bound { field < 8 }
-    requires gap_bound { gap ≤ 2048 }
-    requires lines_bound { lines ≤ 144 }
-    requires all { All (λ s. s ≤ 8389000) (sizes_in nodes.now field n) }
-    requires starts_value { starts.old ≡ replicate 144 0 }
-    ensures { starts.new ≡ begins_to gap (take n places.now) (sizes_in nodes.now field n) lines }
-{
-    let mut at: u32 = 128;
-    let mut c = 0u8;
-    while c < lines {
-        starts[c as usize] = at;
-        at = at + extent(places, nodes, field, n, c) + gap;
-        c += 1;
+    // Where each line begins, up to the last: PAD, and before it each line's size and the gap. The sheet's size along them.
+    fn lay(self, boxes: &[BoxRecord], last: u8, starts: &mut [u32; 144]) -> u32
+        requires last_bound { last ≤ 143 }
+        requires small { All (λ b. size_of self b ≤ 8389000) boxes.now }
+        requires blank { starts.old ≡ replicate 144 0 }
+        ensures size { result ≡ begins (gap_of self) (map (line_of self) boxes.now) (map (size_of self) boxes.now) last + extent_of (map (line_of self) boxes.now) (map (size_of self) boxes.now) last + 128 }
+        ensures starts { starts.new ≡ begins_to (gap_of self) (map (line_of self) boxes.now) (map (size_of self) boxes.now) (last + 1) }
+    {
+        let mut at = 128u32;
+        for c in 0..last {
+            starts[c as usize] = at;
+            at += self.extent(boxes, c) + self.gap();
+        }
+        starts[last as usize] = at;
+        at + self.extent(boxes, last) + 128
     }
-}
-
-// The sheet's size along lines of which this is the last.
-fn total_of(
-    places: &[u8; 48],
-    nodes: &[u32; 384],
-    field: usize,
-    n: usize,
-    last: u8,
-    starts: &[u32; 144],
-) -> u32
-    requires n_bound { n ≤ 48 }
-    requires n_in_bounds { n ≤ length places.now }
-    requires field_bound { field < 8 }
-    requires last_bound { last ≤ 143 }
-    requires all { All (λ s. s ≤ 8389000) (sizes_in nodes.now field n) }
-    requires last_bound_2 { get_or starts.now last 0 ≤ 1250000000 }
-    ensures { result ≡ get_or starts.now last 0 + extent_of (take n places.now) (sizes_in nodes.now field n) last + 128 }
-{
-    starts[last as usize] + extent(places, nodes, field, n, last) + 128
 }
 
 // The owner of box k, by its node's name: the node whose number it is, NO_OWNER if it is a target that is no node, k if there is no name.
-fn owner_of(name: u16, k: u8) -> u8
-    ensures { result ≡ owner_by name k }
+fn owner_of(name: Name, k: u8) -> u8
+    ensures { result ≡ owner_in k (name_line name) }
 {
-    if name == 512 {
-        return k;
+    match name {
+        Name::Nothing => k,
+        Name::Number(q) => q,
+        Name::Invalid(_) => NO_OWNER,
     }
-    if name < 256 {
-        return name as u8;
-    }
-    NO_OWNER
 }
 
-// The records of the first n boxes, where columns begin at xs and rows at ys.
-fn box_records(
-    names: &[u16; 48],
-    nodes: &[u32; 384],
-    xs: &[u32; 144],
-    ys: &[u32; 144],
-    cols: &[u8; 48],
+// The nodes' boxes, which have no place yet, and their ends.
+fn render_nodes(
+    g: &Tables,
     rows: &[u8; 48],
-    n: usize,
-) -> [BoxRecord; 48]
-    requires n_bound { n ≤ 48 }
-    requires bounded { Bounded 143 cols.now n }
-    requires bounded_2 { Bounded 143 rows.now n }
-    ensures { result ≡ boxes_from names.now nodes.now xs.now ys.now cols.now rows.now n }
+    cols: &[u8; 48],
+    boxes: &mut [BoxRecord; 48],
+    sides: &mut [Sides; 48],
+)
+    requires seated { Seated g.now }
+    requires no_boxes { boxes.old ≡ replicate 48 no_box }
+    requires none { sides.old ≡ replicate 48 no_sides }
+    ensures boxes { boxes.new ≡ padded 48 no_box (sized_in g.now rows.now cols.now) }
+    ensures sides { sides.new ≡ padded 48 no_sides (sides_in g.now) }
+    ensures modest { (k : ℕ) → k < g.now.n → Modest (render_of (node_at (graph_of g.now) k)) }
 {
-    let none = no_box();
-    let mut boxes = [none; 48];
-    let mut k = 0usize;
-    while k < n {
-        let c = cols[k];
-        let r = rows[k];
+    for k in 0..g.n {
+        let node = node_of(g, k);
         boxes[k] = BoxRecord {
-            x: xs[c as usize],
-            y: ys[r as usize],
-            width: nodes[8 * k],
-            height: nodes[8 * k + 1],
-            column: c,
-            row: r,
-            owner: owner_of(names[k], k as u8),
+            x: 0,
+            y: 0,
+            width: node.width,
+            height: node.height,
+            column: cols[k],
+            row: rows[k],
+            owner: owner_of(g.names[k], k as u8),
         };
-        k += 1;
+        sides[k] = Sides {
+            inputs: node.inputs,
+            outputs: node.outputs,
+        };
     }
-    boxes
 }
 
-// The inputs (from 2 on) or the outputs (from 5 on) of box k, in their final place: `translate`.
-fn run_at(
-    nodes: &[u32; 384],
-    xs: &[u32; 144],
-    ys: &[u32; 144],
-    cols: &[u8; 48],
-    rows: &[u8; 48],
-    k: usize,
-    from: usize,
-) -> Run
-    requires k_bound { k < 48 }
-    requires from_bound { from ≤ 5 }
-    requires movable { Movable nodes.now xs.now ys.now cols.now rows.now from k }
-    ensures { result ≡ run_at nodes.now xs.now ys.now cols.now rows.now from k }
+// Each box is placed: its column begins there by xs, and its row by ys.
+fn place(boxes: &mut [BoxRecord], xs: &[u32; 144], ys: &[u32; 144])
+    requires { All (λ b. (b.column ≤ 143) × (b.row ≤ 143)) boxes.old }
+    ensures { boxes.new ≡ map (placed_at xs.now ys.now) boxes.old }
 {
-    let i = 8 * k + from;
+    for b in boxes.iter_mut() {
+        b.x = xs[b.column as usize];
+        b.y = ys[b.row as usize];
+    }
+}
+
+// The ends of a box in their final place: `translate`.
+fn moved(run: Run, b: &BoxRecord) -> Run
+    requires { Near run b.now }
+    ensures { result ≡ moved_to run b.now }
+{
     Run {
-        x: nodes[i] + xs[cols[k] as usize],
-        y: nodes[i + 1] + ys[rows[k] as usize],
-        gap: nodes[i + 2],
+        x: run.x + b.x,
+        y: run.y + b.y,
+        gap: run.gap,
     }
 }
 
 // The output point of q's sink number m.
-fn marked_output(t: Table, q: u8, m: u8, run: Run) -> Found
-    requires count_bound { t.count ≤ 88 }
-    requires low { Low run }
-    ensures { result ≡ found_of (output_at (laid_outputs run (owned q (items_of t))) m) }
+fn marked_output(t: &Items, q: u8, m: u8, run: Run) -> Option<u32>
+    requires { Low run }
+    ensures { result ≡ found_of (output_at (laid_outputs run (owned q (items_of t.now))) m) }
 {
     let mut x = run.x;
     let mut left = m;
-    let mut j = 0usize;
-    while j < t.count {
-        let e = t.items[j];
-        j += 1;
+    let items = t.as_slice();
+    for e in items {
         if e.owner == q {
             let wx = 128 * (e.len as u32);
             if left == 0 {
-                return Found::At(x + wx / 2);
+                return Some(x + wx / 2);
             }
             left -= 1;
-            x = x + wx + run.gap;
+            x += wx + run.gap;
         }
     }
-    Found::Nothing
+    None
 }
 
 // The output point of q's first sink that leads to k.
-fn first_output(t: Table, q: u8, k: u8, run: Run) -> Found
-    requires count_bound { t.count ≤ 88 }
-    requires low { Low run }
-    ensures { result ≡ found_of (first_to (laid_outputs run (owned q (items_of t))) k) }
+fn first_output(t: &Items, q: u8, k: u8, run: Run) -> Option<u32>
+    requires { Low run }
+    ensures { result ≡ found_of (first_to (laid_outputs run (owned q (items_of t.now))) k) }
 {
     let mut x = run.x;
-    let mut j = 0usize;
-    while j < t.count {
-        let e = t.items[j];
-        j += 1;
+    let items = t.as_slice();
+    for e in items {
         if e.owner == q {
             let wx = 128 * (e.len as u32);
             if e.to == k {
-                return Found::At(x + wx / 2);
+                return Some(x + wx / 2);
             }
-            x = x + wx + run.gap;
+            x += wx + run.gap;
         }
     }
-    Found::Nothing
+    None
 }
 
-// The output point of q that a source of k belongs to, whose mark is held plus 1.
-fn output_for(t: Table, q: u8, mark: u8, k: u8, run: Run) -> Found
-    requires count_bound { t.count ≤ 88 }
-    requires low { Low run }
-    ensures { result ≡ found_of (output_for (mark_of mark) (laid_outputs run (owned q (items_of t))) k) }
+// The output point of q that a source of k belongs to, whose mark is held plus 1. (A byte for each end: it is fixed memory.)
+fn output_for(t: &Items, q: u8, mark: u8, k: u8, run: Run) -> Option<u32>
+    requires { Low run }
+    ensures { result ≡ found_of (output_for (mark_of mark) (laid_outputs run (owned q (items_of t.now))) k) }
 {
     if mark == 0 {
         return first_output(t, q, k, run);
@@ -243,100 +203,76 @@ fn output_for(t: Table, q: u8, mark: u8, k: u8, run: Run) -> Found
     marked_output(t, q, mark - 1, run)
 }
 
-// The curves of the first n boxes.
+// The curves of these boxes, which have these ends.
 fn all_curves(
-    sources: Table,
-    sinks: Table,
-    nodes: &[u32; 384],
-    xs: &[u32; 144],
-    ys: &[u32; 144],
-    cols: &[u8; 48],
-    rows: &[u8; 48],
-    n: usize,
-) -> Curves
-    requires n_bound { n ≤ 48 }
-    requires count_bound { sources.count ≤ 88 }
-    requires count_bound_2 { sinks.count ≤ 88 }
-    requires by_index { (k : ℕ) → k < n → Movable nodes.now xs.now ys.now cols.now rows.now 2 k }
-    requires by_index_2 { (k : ℕ) → k < n → Movable nodes.now xs.now ys.now cols.now rows.now 5 k }
-    requires aimed { Aimed n (items_of sources) }
-    ensures { result ≡ each no_curves (curves_at (items_of sources) (items_of sinks) (run_at nodes.now xs.now ys.now cols.now rows.now 2) (run_at nodes.now xs.now ys.now cols.now rows.now 5)) n }
+    sources: &Items,
+    sinks: &Items,
+    sides: &[Sides],
+    boxes: &[BoxRecord],
+) -> Table<Curve, 88>
+    requires few { length boxes.now ≤ 48 }
+    requires same { length sides.now ≡ length boxes.now }
+    requires inputs { (k : ℕ) → k < length boxes.now → Near (get_or sides.now k no_sides).inputs (get_or boxes.now k no_box) }
+    requires outputs { (k : ℕ) → k < length boxes.now → Near (get_or sides.now k no_sides).outputs (get_or boxes.now k no_box) }
+    requires aimed { Aimed (length boxes.now) (items_of sources.now) }
+    ensures { result ≡ each no_curves (curves_at (items_of sources.now) (items_of sinks.now) (inputs_in sides.now boxes.now) (outputs_in sides.now boxes.now)) (length boxes.now) }
 {
-    let none = Curve {
-        x0: 0,
-        y0: 0,
-        x1: 0,
-        y1: 0,
-    };
-    let mut all = Curves {
-        curves: [none; 88],
-        drawn: 0,
-    };
-    let mut k = 0usize;
-    while k < n {
-        let into = run_at(nodes, xs, ys, cols, rows, k, 2);
+    let mut all = Table::empty(Curve::default());
+    let items = sources.as_slice();
+    for (k, b) in boxes.iter().enumerate() {
+        let into = moved(sides[k].inputs, b);
         let mut x = into.x;
-        let mut j = 0usize;
-        while j < sources.count {
-            let e = sources.items[j];
-            j += 1;
+        for e in items {
             if e.owner as usize == k {
                 let wx = 128 * (e.len as u32);
-                let run = run_at(nodes, xs, ys, cols, rows, e.to as usize, 5);
-                let found = output_for(sinks, e.to, e.mark, k as u8, run);
-                if let Found::At(x0) = found {
-                    let at = all.drawn as usize;
-                    if at < 88 {
-                        all.curves[at] = Curve {
-                            x0: x0,
-                            y0: run.y,
-                            x1: x + wx / 2,
-                            y1: into.y,
-                        };
-                        all.drawn += 1;
-                    }
+                let from = e.to as usize;
+                let run = moved(sides[from].outputs, &boxes[from]);
+                if let Some(x0) = output_for(sinks, e.to, e.mark, k as u8, run) {
+                    all.push(Curve {
+                        x0,
+                        y0: run.y,
+                        x1: x + wx / 2,
+                        y1: into.y,
+                    });
                 }
-                x = x + wx + into.gap;
+                x += wx + into.gap;
             }
         }
-        k += 1;
     }
     all
 }
 
 // The sheet of the graph with these columns and rows, at an origin. (The numbers that are many stand in arrays that are lent, for the memory.)
-pub fn laid(g: Tables, rows: &[u8; 48], cols: &[u8; 48], x: u32, y: u32) -> SheetRecord
-    requires seated { Seated g }
-    requires bounded { Bounded 47 rows.now g.n }
-    requires bounded_2 { Bounded 143 cols.now g.n }
-    ensures { result ≡ record_of (sheet_of (graph_of g) g.cuts (take g.n cols.now) (take g.n rows.now)) x y }
+pub fn laid(g: &Tables, rows: &[u8; 48], cols: &[u8; 48], x: u32, y: u32) -> SheetRecord
+    requires seated { Seated g.now }
+    requires bounded { Bounded 47 rows.now g.now.n }
+    requires bounded_2 { Bounded 143 cols.now g.now.n }
+    ensures { result ≡ record_of (sheet_of (graph_of g.now) g.now.cuts (take g.now.n cols.now) (take g.now.n rows.now)) x y }
 {
     let n = g.n;
-    let mut nodes = [0u32; 384];
-    render_nodes(g, &mut nodes);
-    let last_column = largest_of(cols, n);
-    let last_row = largest_of(rows, n);
+    let mut boxes = [BoxRecord::default(); 48];
+    let mut sides = [Sides::default(); 48];
+    render_nodes(g, rows, cols, &mut boxes, &mut sides);
+    let last_column = largest_of(&cols[..n]);
+    let last_row = largest_of(&rows[..n]);
     let mut xs = [0u32; 144];
     let mut ys = [0u32; 144];
-    line_begins(cols, &nodes, 0, n, 1024, last_column + 1, &mut xs);
-    line_begins(rows, &nodes, 1, n, 2048, last_row + 1, &mut ys);
-    let sources = g.sources;
-    let sinks = g.sinks;
-    let drawn = all_curves(sources, sinks, &nodes, &xs, &ys, cols, rows, n);
-    let names = g.names;
-    let boxes = box_records(&names, &nodes, &xs, &ys, cols, rows, n);
-    let list = drawn.curves;
+    let width = Axis::Across.lay(&boxes[..n], last_column, &mut xs);
+    let height = Axis::Down.lay(&boxes[..n], last_row, &mut ys);
+    place(&mut boxes[..n], &xs, &ys);
+    let drawn = all_curves(&g.sources, &g.sinks, &sides[..n], &boxes[..n]);
+    let curves = drawn.items;
     SheetRecord {
-        width: total_of(cols, &nodes, 0, n, last_column, &xs),
-        height: total_of(rows, &nodes, 1, n, last_row, &ys),
-        x: x,
-        y: y,
+        width,
+        height,
+        x,
+        y,
         columns: last_column + 1,
         rows: last_row + 1,
         cuts: g.cuts,
         count: n as u8,
-        drawn: drawn.drawn,
-        boxes: boxes,
-        curves: list,
+        drawn: drawn.count as u8,
+        boxes,
+        curves,
     }
 }

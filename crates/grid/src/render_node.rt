@@ -1,13 +1,12 @@
 // A node's box, as `RenderNode::new` has it: its numbers before `translate`.
-ghost use Rattle.std.specs.Prelude.{◌≡◌, cond, ◌++◌, map, ◌+◌, ◌-◌, ◌*◌, ◌<◌, ◌≤◌, max, eqb, ltb, length};
-ghost use Rattle.std.proofs.lemmas.List.Edits.{sets};
+ghost use Rattle.std.specs.Prelude.{◌≡◌, ◌++◌, map, ◌<◌, ◌≤◌};
 ghost use Rattle.chart.specs.code.Filled.{owned_lines, lines_of};
-ghost use Rattle.graph.specs.Graph.{given};
-ghost use Rattle.graph.specs.code.Tables.{owned, items_of, number_line, graph_of};
-ghost use Rattle.grid.specs.code.Rendered.{ends_of, center_of, gap_from, first_from, lines_from, text_from, empty_from, inner_from, render_from, Modest, numbers_of, Noted, AllModest, Seated};
+ghost use Rattle.graph.specs.Graph.{given, node_at};
+ghost use Rattle.graph.specs.code.Tables.{owned, items_of, name_line, graph_of};
+ghost use Rattle.grid.specs.code.Rendered.{ends_of, center_of, gap_from, first_from, lines_from, text_from, empty_from, inner_from, render_from, render_of, Modest, Seated};
 
 use chart::Lines;
-use graph::{Table, Tables};
+use graph::{Items, Name, Tables};
 
 // The ends that a node has on one side: the characters of their texts together, and how many they are.
 #[derive(Clone, Copy)]
@@ -24,11 +23,18 @@ pub struct Center {
 }
 
 // The ends of one side as they are laid: where the first text begins, the space after each, and the height of their points.
-#[derive(Clone, Copy)]
+#[derive(Clone, Copy, Default)]
 pub struct Run {
     pub x: u32,
     pub y: u32,
     pub gap: u32,
+}
+
+// A node's inputs and outputs.
+#[derive(Clone, Copy, Default)]
+pub struct Sides {
+    pub inputs: Run,
+    pub outputs: Run,
 }
 
 // A box: its size, its inputs and outputs, where its lines begin and the height above the first of them.
@@ -42,102 +48,59 @@ pub struct RenderNode {
     pub cy: u32,
 }
 
-// The larger of two.
-fn larger(a: u32, b: u32) -> u32
-    ensures { result ≡ max a b }
-{
-    if a < b { b } else { a }
-}
-
-// The longer of two.
-fn longer(a: u8, b: u8) -> u8
-    ensures { result ≡ max a b }
-{
-    if a < b { b } else { a }
-}
-
 // The ends that p owns in the table.
-pub fn ends_of(t: Table, p: u8) -> Ends
-    requires { t.count ≤ 88 }
-    ensures { result ≡ ends_of (owned p (items_of t)) }
+fn ends_of(t: &Items, p: u8) -> Ends
+    ensures { result ≡ ends_of (owned p (items_of t.now)) }
 {
-    let mut len: u16 = 0;
-    let mut count: u8 = 0;
-    let mut k = t.count as u32;
-    while 0 < k {
-        k -= 1;
-        let e = t.items[k as usize];
+    let mut len = 0u16;
+    let mut count = 0u8;
+    let items = t.as_slice();
+    for e in items {
         if e.owner == p {
             len += e.len as u16;
             count += 1;
         }
     }
-    Ends {
-        len: len,
-        count: count,
-    }
+    Ends { len, count }
 }
 
-// The line that a node's name stands for: the number of a node, 256 and a target that is no node, or 512 for none.
-pub fn number_line(name: u16) -> Center
-    ensures { result ≡ center_of (number_line name) }
+// The line that a node's name holds.
+pub fn name_line(name: Name) -> Center
+    ensures { result ≡ center_of (name_line name) }
 {
-    if name == 512 {
-        return Center {
-            longest: 0,
-            count: 0,
-        };
-    }
-    if name < 10 {
-        return Center {
-            longest: 2,
-            count: 1,
-        };
-    }
-    if name < 256 {
-        return Center {
-            longest: 3,
-            count: 1,
-        };
-    }
-    if name < 266 {
-        return Center {
-            longest: 11,
-            count: 1,
-        };
-    }
-    if name < 356 {
-        return Center {
-            longest: 12,
-            count: 1,
-        };
-    }
-    Center {
-        longest: 13,
-        count: 1,
-    }
+    let longest = match name {
+        Name::Nothing => {
+            return Center {
+                longest: 0,
+                count: 0,
+            };
+        }
+        Name::Number(0..=9) => 2,
+        Name::Number(_) => 3,
+        Name::Invalid(0..=9) => 11,
+        Name::Invalid(10..=99) => 12,
+        Name::Invalid(_) => 13,
+    };
+    Center { longest, count: 1 }
 }
 
-// The lines that p owns in the table, and that of its number.
-pub fn center_of(t: Lines, name: u16, p: u8) -> Center
-    requires { t.count ≤ 128 }
-    ensures { result ≡ center_of (map given (owned_lines p (lines_of t)) ++ number_line name) }
+// The lines that p owns in the table, and that of its name.
+fn center_of(t: &Lines, name: Name, p: u8) -> Center
+    ensures { result ≡ center_of (map given (owned_lines p (lines_of t.now)) ++ name_line name) }
 {
-    let last = number_line(name);
-    let mut longest = last.longest;
-    let mut count = last.count;
-    let mut k = t.count as u32;
-    while 0 < k {
-        k -= 1;
-        let e = t.items[k as usize];
+    let mut longest = 0u8;
+    let mut count = 0u8;
+    let lines = t.as_slice();
+    for e in lines {
         if e.owner == p {
-            longest = longer(e.len, longest);
+            longest = longest.max(e.len);
             count += 1;
         }
     }
+    let last = name_line(name);
     Center {
-        longest: longest,
-        count: count,
+        longest: longest.max(last.longest),
+        count: count + last.count,
     }
 }
 
@@ -187,12 +150,12 @@ fn empty_height(inner: u32) -> u32
 fn inner_width(a: Ends, c: Center, b: Ends) -> u32
     ensures { result ≡ inner_from a c b }
 {
-    let wide = larger(128 * (a.len as u32), 128 * (b.len as u32));
-    larger(wide, 256 * (c.longest as u32)) + 128
+    let wide = (128 * (a.len as u32)).max(128 * (b.len as u32));
+    wide.max(256 * (c.longest as u32)) + 128
 }
 
 // The box of a node with these sources, lines and sinks.
-pub fn render_node(a: Ends, c: Center, b: Ends) -> RenderNode
+fn render_node(a: Ends, c: Center, b: Ends) -> RenderNode
     ensures { (result ≡ render_from a c b) × Modest result }
 {
     let inner = inner_width(a, c, b);
@@ -208,54 +171,28 @@ pub fn render_node(a: Ends, c: Center, b: Ends) -> RenderNode
     };
     let outputs = Run {
         x: first_x(sink_gap, b.count),
-        y: y,
+        y,
         gap: sink_gap,
     };
     RenderNode {
         width: inner + 256,
         height: y + empty,
-        inputs: inputs,
-        outputs: outputs,
+        inputs,
+        outputs,
         cx: (inner - 256 * (c.longest as u32)) / 2 + 128,
-        cy: cy,
+        cy,
     }
 }
 
-// Box p's numbers stand from 8 p on: its width and its height, its inputs and its outputs.
-fn note(nodes: &mut [u32; 384], p: usize, node: RenderNode)
-    requires { p < 48 }
-    ensures { nodes.new ≡ sets nodes.old (8 * p) (numbers_of node) }
+// The box of node p, before `translate`.
+pub fn node_of(g: &Tables, p: usize) -> RenderNode
+    requires seated { Seated g.now }
+    requires p_lt_n { p < g.now.n }
+    ensures { (result ≡ render_of (node_at (graph_of g.now) p)) × Modest result }
 {
-    let i = 8 * p;
-    let a = node.inputs;
-    let b = node.outputs;
-    nodes[i] = node.width;
-    nodes[i + 1] = node.height;
-    nodes[i + 2] = a.x;
-    nodes[i + 3] = a.y;
-    nodes[i + 4] = a.gap;
-    nodes[i + 5] = b.x;
-    nodes[i + 6] = b.y;
-    nodes[i + 7] = b.gap;
-}
-
-// The numbers of all boxes, before `translate`.
-pub fn render_nodes(g: Tables, nodes: &mut [u32; 384])
-    requires seated { Seated g }
-    requires nodes_len { length nodes.old ≡ 384 }
-    ensures { Noted (graph_of g) g.n nodes.new × AllModest (graph_of g) g.n }
-{
-    let names = g.names;
-    let lines = g.lines;
-    let sources = g.sources;
-    let sinks = g.sinks;
-    let mut p = 0usize;
-    while p < g.n {
-        let q = p as u8;
-        let a = ends_of(sources, q);
-        let c = center_of(lines, names[p], q);
-        let b = ends_of(sinks, q);
-        note(nodes, p, render_node(a, c, b));
-        p += 1;
-    }
+    let q = p as u8;
+    let sources = ends_of(&g.sources, q);
+    let lines = center_of(&g.lines, g.names[p], q);
+    let sinks = ends_of(&g.sinks, q);
+    render_node(sources, lines, sinks)
 }

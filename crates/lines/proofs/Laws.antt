@@ -1,82 +1,68 @@
 -- Laws on lines and digits.
 -- Assumes nothing.
-use Prim.Native.Nat.{ℕ, ◌+◌, ◌-◌, ◌≤◌, ◌<◌, min}
+use Prim.Native.Nat.{ℕ, zero, suc, ◌+◌, ◌≤◌, ◌<◌, min}
 use native.Mathlib.Omega.{arith}
 use native.Mathlib.Numerals.{add-one}
-use native.Mathlib.Nat.{min-eq_left, min-eq_right}
-use mathlib.Core.Path.{◌≡◌, refl, sym, ◌∙◌}
-use mathlib.Core.Bool.{Bool, true, false, cond, false≢true}
+use mathlib.Core.Path.{◌≡◌, refl, sym, ap, ◌∙◌}
+use mathlib.Core.Bool.{Bool, true, false, cond, and-true}
 use mathlib.Core.List.{List, [], ◌∷◌}
 use lib.Dec.{eqb, ltb}
-use lib.ListN.{length, get_or, set, take, drop, drop_of_length-le, length-drop}
-use lib.Seq.{drop-cons, take-nil, take_all}
-use borrow.Author.Tests.{eq-eqb, ne_eqb, ltb-true}
+use lib.ListN.{length, set, take, drop, length-drop}
+use borrow.Author.Tests.{ltb-false}
+use Rattle.std.specs.Prelude.{Some, None, nat_eq}
+use Rattle.std.specs.Cmp.Lexicographic.{pointwise}
+use Rattle.std.specs.Option.{unwrap_or}
+use Rattle.std.specs.List.{starts_with}
+use Rattle.std.proofs.lemmas.Bool.Decides.{nat_tests}
+use Rattle.std.proofs.lemmas.List.{drop_min}
 use Rattle.laws.proofs.Each.{next}
-use Rattle.lines.specs.Lines.{digit_of, before, line_end, line_of, is_default, digits_of, byte_at, decoded}
+use Rattle.lines.specs.Lines.{line_of, lines_from, lines_of, is_default, byte_at, decoded}
 
--- a digit's value is below 16
-pub digit-small : (c : ℕ) → digit_of c < 16
-unfolding digit_of
-digit-small c = go (ltb c 48) (ltb c 58) (ltb c 97) (ltb c 103) refl refl refl refl
+-- the place that `position` found, or the length
+pub found-or-length : (p l : ℕ) → p ≤ l → unwrap_or (cond (ltb p l) (Some p) None) l ≡ p
+found-or-length p l h = go (ltb p l) refl
   where
-    go : (p q r t : Bool) → ltb c 48 ≡ p → ltb c 58 ≡ q → ltb c 97 ≡ r → ltb c 103 ≡ t → cond p 0 (cond q (c - 48) (cond r 0 (cond t (c - 87) 0))) < 16
-    go true q r t a b d e = omega arith
-    go false true r t a b d e = omega (arith, ltb-true c 58 b)
-    go false false true t a b d e = omega arith
-    go false false false true a b d e = omega (arith, ltb-true c 103 e)
-    go false false false false a b d e = omega arith
+    go : (q : Bool) → ltb p l ≡ q → unwrap_or (cond q (Some p) None) l ≡ p
+    go true e = refl
+    go false e = omega (arith, ltb-false p l e)
 
-module _ (s : List ℕ) (k : ℕ) where
-  -- no byte is left
-  pub end-past : length s ≤ k → line_end s k ≡ k
-  unfolding before
-  end-past h = rw (drop_of_length-le s {i = k} h) (omega arith)
+-- a text without a byte has no line, and a number of lines that is not less than the text's length leaves none out
+pub no-line : (n : ℕ) → lines_from n [] ≡ []
+unfolding lines_from
+no-line zero = refl
+no-line (suc n) = refl
 
-  module _ (h : k < length s) where
-    pub end-here : get_or s k 0 ≡ 10 → line_end s k ≡ k
-    unfolding before
-    end-here e = rw (drop-cons s k 0 h, eq-eqb (get_or s k 0) 10 e) (omega arith)
+enough : (n m : ℕ) (s : List ℕ) → length s ≤ n → length s ≤ m → lines_from n s ≡ lines_from m s
+unfolding lines_from
+enough n m [] h k = no-line n ∙ sym (no-line m)
+enough zero m (b ∷ s) h k = absurd (omega arith)
+enough (suc n) zero (b ∷ s) h k = absurd (omega arith)
+enough (suc n) (suc m) (b ∷ s) h k =
+    let line = line_of (b ∷ s) 0 in
+    let d = length-drop (length line) s in
+    ap (λ t. line ∷ t) (enough n m (drop (length line) s) (omega (arith, d)) (omega (arith, d)))
 
-    pub end_on : (get_or s k 0 ≡ 10 → ⊥) → line_end s (k + 1) ≡ line_end s k
-    unfolding before
-    end_on n = rw (add-one k, drop-cons s k 0 h, ne_eqb (get_or s k 0) 10 n) (omega arith)
+-- the first line, and those after it
+pub first-line : (s : List ℕ) → 0 < length s → let line = line_of s 0 in lines_of s ≡ line ∷ lines_of (drop (min (length line + 1) (length s)) s)
+unfolding lines_from
+first-line [] h = absurd (omega arith)
+first-line (b ∷ s) h =
+    let k = length (line_of (b ∷ s) 0) in
+    let rest = drop (min (k + 1) (suc (length s))) (b ∷ s) in
+    let d : rest ≡ drop k s = drop_min (k + 1) (b ∷ s) ∙ rw (add-one k) in
+    let l : length (drop k s) ≤ length s = omega (arith, length-drop k s) in
+    ap (λ t. line_of (b ∷ s) 0 ∷ t) (enough (length s) (length (drop k s)) (drop k s) l (omega arith) ∙ sym (ap lines_of d))
 
--- the line past the end, and up to its end
-pub line-past : (s : List ℕ) (at : ℕ) → length s < at → line_of s at ≡ []
-line-past s at h = rw (drop_of_length-le s {i = at} (omega arith)) (take-nil (before []))
-
-pub line-is : (s : List ℕ) (at end : ℕ) → end ≡ line_end s at → take (end - at) (drop at s) ≡ line_of s at
-line-is s at end e = let d : end - at ≡ before (drop at s) = omega arith in rw d
-
--- a line without a byte does not begin with D, its first byte tells, and one that begins with D has a byte
-pub default_none : (s : List ℕ) → length s ≡ 0 → false ≡ is_default s
+-- whether a line begins with D, as `strip_prefix` and `starts_with` say it
+pub stripped-byte : (s : List ℕ) → pointwise nat_eq (take 1 s) (68 ∷ []) ≡ is_default s
 unfolding is_default
-default_none [] h = refl
-default_none (b ∷ s) h = absurd (omega arith)
+stripped-byte [] = refl
+stripped-byte (b ∷ s) = and-true (eqb b 68)
 
-pub default_first : (s : List ℕ) → 0 < length s → eqb (get_or s 0 0) 68 ≡ is_default s
+pub starts : (s : List ℕ) → starts_with nat_eq s (68 ∷ []) ≡ is_default s
 unfolding is_default
-default_first [] h = absurd (omega arith)
-default_first (b ∷ s) h = refl
-
-pub default_long : (s : List ℕ) → is_default s ≡ true → 1 ≤ length s
-unfolding is_default
-default_long [] h = absurd (false≢true h)
-default_long (b ∷ s) h = omega arith
-
--- what is left after the D, and a line without one
-pub default_digits : (s : List ℕ) → is_default s ≡ true → take (length s - 1) (drop 1 s) ≡ digits_of s
-default_digits s h = rw h (take_all (length s - 1) (drop 1 s) (omega (arith, length-drop 1 s)))
-
-pub plain-digits : (s : List ℕ) → is_default s ≡ false → s ≡ digits_of s
-plain-digits s h = rw h
-
--- as many as there are, or as there is room for
-pub most-left : (a b k : ℕ) → k ≤ a → k ≤ b → a ≤ k → k ≡ min a b
-most-left a b k h l m = let e : k ≡ a = omega arith in let l₂ : a ≤ b = omega arith in e ∙ sym (min-eq_left l₂)
-
-pub most-right : (a b k : ℕ) → k ≤ a → k ≤ b → b ≤ k → k ≡ min a b
-most-right a b k h l m = let e : k ≡ b = omega arith in let l₂ : b ≤ a = omega arith in e ∙ sym (min-eq_right l₂)
+starts [] = refl
+starts (b ∷ s) = and-true (eqb 68 b) ∙ grind (arith, nat_tests)
 
 -- one byte more
 pub decoded-next : (s : List ℕ) (k : ℕ) (buf : List ℕ) → decoded s (k + 1) buf ≡ set (decoded s k buf) k (byte_at s k)

@@ -1,24 +1,34 @@
 -- Lines of hexadecimal digits in lower case, after a D or not.
 -- Assumes nothing.
-use Rattle.std.specs.Prelude.{ℕ, suc, ◌+◌, ◌-◌, ◌*◌, Bool, false, cond, List, [], ◌∷◌, eqb, ltb, get_or, set, take, drop}
+use Rattle.std.specs.Prelude.{ℕ, zero, suc, ◌+◌, ◌-◌, ◌*◌, Bool, false, cond, List, [], ◌∷◌, length, eqb, ltb, get_or, set, take, drop}
+use Rattle.std.specs.List.{position_or_len}
 use Rattle.laws.specs.Each.{each}
+use Rattle.lines.specs.declared.Iter.{Iter}
 
 -- a digit's value, 0 for any other byte
-unfoldable pub digit_of : ℕ → ℕ
+abbrev pub digit_of : ℕ → ℕ
 digit_of c = cond (ltb c 48) 0 (cond (ltb c 58) (c - 48) (cond (ltb c 97) 0 (cond (ltb c 103) (c - 87) 0)))
 
 -- how many bytes stand before the first line feed
-unfoldable pub before : List ℕ → ℕ
-before [] = 0
-before (b ∷ s) = cond (eqb b 10) 0 (suc (before s))
-
--- the place of the first line feed from at on, or the end
-abbrev pub line_end : List ℕ → ℕ → ℕ
-line_end s at = at + before (drop at s)
+abbrev pub before : List ℕ → ℕ
+before s = position_or_len (λ b. eqb b 10) s
 
 -- the line from at on
 abbrev pub line_of : List ℕ → ℕ → List ℕ
 line_of s at = take (before (drop at s)) (drop at s)
+
+-- the lines of the text, each after the line feed of the one before, at most n; no empty line stands after a last line feed
+unfoldable pub lines_from : ℕ → List ℕ → List (List ℕ)
+lines_from zero s = []
+lines_from (suc n) [] = []
+lines_from (suc n) (b ∷ s) = let line = line_of (b ∷ s) 0 in line ∷ lines_from n (drop (suc (length line)) (b ∷ s))
+
+abbrev pub lines_of : List ℕ → List (List ℕ)
+lines_of s = lines_from (length s) s
+
+-- the lines that the iterator has left
+abbrev pub lines_left : Iter → List (List ℕ)
+lines_left it = lines_of it.rest.now
 
 -- whether the line begins with D (68)
 unfoldable pub is_default : List ℕ → Bool

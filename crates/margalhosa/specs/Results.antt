@@ -1,36 +1,33 @@
 -- What the functions for C answer, by what the operations of documents 01 and 02 do: its two numbers of the refusal, 0 0 where nothing is refused, and the value.
 -- Assumes nothing.
-use Rattle.std.specs.Prelude.{ℕ, ◌+◌, ◌≤◌, ◌≡◌, cond, List, ◌++◌, eqb, length, take, drop}
+use Rattle.std.specs.Prelude.{ℕ, ◌+◌, ◌≤◌, ◌≡◌, false, cond, List, [], ◌++◌, eqb, length, take, drop, Result, Ok, Err}
 use Rattle.std.specs.Float.{binary32}
 use Rattle.std.specs.Float.Ieee.{of_bits}
-use Rattle.chart.specs.declared.Answer.TheVariants.{Ready}
 use Rattle.chart.specs.declared.Setting.{Setting}
 use Rattle.chart.specs.declared.Setting.TheVariants.{Default, Strict}
-use Rattle.chart.specs.Read.{Numbers, numbers_of}
-use Rattle.signal.specs.declared.SignalOrder.{SignalOrder}
+use Rattle.refusals.specs.declared.Numbers.{Numbers}
+use Rattle.refusals.specs.declared.Refusal.{Refusal}
+use Rattle.refusals.specs.declared.TextRefusal.{TextRefusal}
+use Rattle.refusals.specs.Refusals.{numbers, numbers_of, text_numbers_of}
+use Rattle.signal.specs.declared.NoOrder.{NoOrder}
+use Rattle.signal.specs.declared.NoOrder.TheVariants.{Refused, Cycle}
 use Rattle.signal.specs.Signal.{signal}
-use Rattle.signal.specs.Outcome.{outcome_of as signal_outcome}
+use Rattle.signal.specs.Outcome.{Nodes, nodes_held, answer_of as order_of}
 use Rattle.signal.specs.Laws.{IsSignalOrder}
-use Rattle.grid.specs.declared.Outcome.{Outcome}
-use Rattle.grid.specs.declared.BoxAnswer.{BoxAnswer}
-use Rattle.grid.specs.Sheeted.{sheeted, outcome_of}
+use Rattle.grid.specs.declared.BoxRecord.{BoxRecord}
+use Rattle.grid.specs.Record.{no_box, no_sheet}
+use Rattle.grid.specs.Sheeted.{sheeted, answer_of}
 use Rattle.grid.specs.LaidOut.{LaidOut, IsSheet}
 use Rattle.grid.specs.Labelled.{Labelled}
 use Rattle.grid.specs.declared.SheetRecord.{SheetRecord}
 use Rattle.path.specs.declared.Pen.{Pen}
 use Rattle.path.specs.declared.Segment.{Segment}
 use Rattle.path.specs.declared.Segment.TheVariants.{Move, Line, Cubic, Close}
-use Rattle.path.specs.declared.Given.{Given}
-use Rattle.path.specs.declared.Given.TheVariants.{Drawn, Refused as Given-as-Refused}
-use Rattle.path.specs.declared.Counted.{Counted}
-use Rattle.path.specs.declared.Counted.TheVariants.{Segments, Refused as Count-as-Refused}
-use Rattle.path.specs.declared.Written.{Written}
-use Rattle.path.specs.declared.Written.TheVariants.{Done, Refused}
-use Rattle.path.specs.declared.LabelAnswer.{LabelAnswer}
+use Rattle.path.specs.declared.PlacedLabel.{PlacedLabel}
 use Rattle.path.specs.declared.LabelSpan.{LabelSpan}
 use Rattle.path.specs.Text.{text_of}
 use Rattle.path.specs.Segments.{drawn_of}
-use Rattle.path.specs.Answers.{sheet_answer, given_of, written_of, left_of, given_numbers, count_numbers, written_numbers}
+use Rattle.path.specs.Answers.{sheet_answer, given_of, written_of, left_of}
 use Rattle.path.specs.Reader.{Answer, read}
 use Rattle.path.specs.Promises.{SheetText, IsSegment}
 use Rattle.path.specs.Label.{tabled, LabelText, label_span_of}
@@ -47,22 +44,31 @@ abbrev pub setting_of : ℕ → Setting
 setting_of n = cond (eqb n 0) Default Strict
 
 -- ---- a sheet and its boxes
-abbrev pub sheet_result : Outcome → SheetResult
-sheet_result o = record { refused = (numbers_of o.answer).first; second = (numbers_of o.answer).second; sheet = o.sheet }
+abbrev pub sheet_by : Numbers → SheetRecord → SheetResult
+sheet_by n sheet = record { refused = n.first; second = n.second; sheet = sheet }
+
+-- refused, every field of the sheet is 0
+abbrev pub sheet_result : Result SheetRecord Refusal → SheetResult
+sheet_result (Ok sheet) = sheet_by (numbers 0 0) sheet
+sheet_result (Err why) = sheet_by (numbers_of why) no_sheet
 
 -- what `margalhosa_sheet` promises, in each setting w, for every byte string s and every origin x y
 pub record IsSheetResult (w : Setting) (s : List ℕ) (x y : ℕ) (r : SheetResult) : Type 0 where
   -- every field of the answer is the definition's, of which `grid` promises more: drawn at origin 0 0, the walks
-  pub whole : r ≡ sheet_result (outcome_of x y (sheeted w s x y))
-  pub promised : IsSheet w s x y (outcome_of x y (sheeted w s x y))
+  pub whole : r ≡ sheet_result (answer_of x y (sheeted w s x y))
+  pub promised : IsSheet w s x y (answer_of x y (sheeted w s x y))
   -- 0 is no refusal's number: the sheet is drawn (of the other results: proofs/Zeros.antt)
-  pub drawn : r.refused ≡ 0 → outcome_of x y (sheeted w s x y) ≡ record { answer = Ready; sheet = r.sheet }
+  pub drawn : r.refused ≡ 0 → answer_of x y (sheeted w s x y) ≡ Ok r.sheet
   -- what is claimed of a sheet that is drawn; its text has at most 9,467 bytes
   pub laid : r.refused ≡ 0 → LaidOut w s x y r.sheet
   pub text_most : r.refused ≡ 0 → length (text_of (drawn_of r.sheet)) ≤ 9467
 
-abbrev pub box_result : BoxAnswer → BoxResult
-box_result b = record { refused = (numbers_of b.answer).first; second = (numbers_of b.answer).second; place = b.place }
+abbrev pub box_by : Numbers → BoxRecord → BoxResult
+box_by n place = record { refused = n.first; second = n.second; place = place }
+
+abbrev pub box_result : Result BoxRecord Refusal → BoxResult
+box_result (Ok place) = box_by (numbers 0 0) place
+box_result (Err why) = box_by (numbers_of why) no_box
 
 -- ---- a segment
 -- a position that a segment doesn't have: 0.0 0.0
@@ -79,9 +85,9 @@ segment_in n (Line p) = segment_by n 1 no_pen no_pen p
 segment_in n (Cubic a b p) = segment_by n 2 a b p
 segment_in n Close = segment_by n 3 no_pen no_pen no_pen
 
-abbrev pub segment_result : Given → SegmentResult
-segment_result (Drawn g) = segment_in (given_numbers (Drawn g)) g
-segment_result (Given-as-Refused n p) = segment_by (given_numbers (Given-as-Refused n p)) 0 no_pen no_pen no_pen
+abbrev pub segment_result : Result Segment TextRefusal → SegmentResult
+segment_result (Ok g) = segment_in (numbers 0 0) g
+segment_result (Err r) = segment_by (text_numbers_of r) 0 no_pen no_pen no_pen
 
 -- what `margalhosa_segment` and `margalhosa_text_segment` promise of segment k of what a sheet or a path text gives: it is the one that `path` hands out
 pub record IsSegmentResult (k : ℕ) (a : Answer) (r : SegmentResult) : Type 0 where
@@ -92,47 +98,38 @@ pub record IsSegmentResult (k : ℕ) (a : Answer) (r : SegmentResult) : Type 0 w
 abbrev pub count_by : Numbers → ℕ → CountResult
 count_by n count = record { refused = n.first; second = n.second; count = count }
 
-abbrev pub written_result : Written → CountResult
-written_result (Done n) = count_by (written_numbers (Done n)) n
-written_result (Refused n p) = count_by (written_numbers (Refused n p)) 0
-
-abbrev pub count_result : Counted → CountResult
-count_result (Segments n) = count_by (count_numbers (Segments n)) n
-count_result (Count-as-Refused n p) = count_by (count_numbers (Count-as-Refused n p)) 0
+abbrev pub count_result : Result ℕ TextRefusal → CountResult
+count_result (Ok n) = count_by (numbers 0 0) n
+count_result (Err r) = count_by (text_numbers_of r) 0
 
 -- what `margalhosa_text` promises: the buffer is `buf` before and `out` after
 pub record IsTextResult (s : SheetRecord) (buf : List ℕ) (r : CountResult) (out : List ℕ) : Type 0 where
-  pub whole : r ≡ written_result (written_of buf (sheet_answer s))
+  pub whole : r ≡ count_result (written_of buf (sheet_answer s))
   pub bytes : out ≡ left_of buf (sheet_answer s)
   pub text : r.refused ≡ 0 → SheetText s (take r.count out)
 
 -- `margalhosa_rewrite`: the text s, byte for byte
 pub record IsRewriteResult (s buf : List ℕ) (r : CountResult) (out : List ℕ) : Type 0 where
-  pub whole : r ≡ written_result (written_of buf (read s))
+  pub whole : r ≡ count_result (written_of buf (read s))
   pub bytes : out ≡ left_of buf (read s)
   pub same : r.refused ≡ 0 → (r.count ≡ length s) × (out ≡ s ++ drop r.count buf)
 
 -- ---- labels
-abbrev pub label_result : LabelAnswer → LabelResult
-label_result l =
-    record {
-      refused = (numbers_of l.answer).first;
-      second = (numbers_of l.answer).second;
-      x = l.x;
-      y = l.y;
-      size = l.size;
-      width = l.width;
-    }
+abbrev pub label_by : Numbers → PlacedLabel → LabelResult
+label_by n l = record { refused = n.first; second = n.second; x = l.x; y = l.y; size = l.size; width = l.width }
 
-abbrev pub part_result : LabelSpan → PartResult
-part_result l =
-    record {
-      refused = (numbers_of l.answer).first;
-      second = (numbers_of l.answer).second;
-      fixed = cond l.fixed 1 0;
-      at = l.at;
-      len = l.len;
-    }
+-- refused, 'all numbers are 0'
+abbrev pub label_result : Result PlacedLabel Refusal → LabelResult
+label_result (Ok l) = label_by (numbers 0 0) l
+label_result (Err why) = label_by (numbers_of why) (record { x = 0; y = 0; size = 0; width = 0 })
+
+abbrev pub part_by : Numbers → LabelSpan → PartResult
+part_by n l = record { refused = n.first; second = n.second; fixed = cond l.fixed 1 0; at = l.at; len = l.len }
+
+-- refused, the part is 'the empty one at the chart's start'
+abbrev pub part_result : Result LabelSpan Refusal → PartResult
+part_result (Ok l) = part_by (numbers 0 0) l
+part_result (Err why) = part_by (numbers_of why) (record { fixed = false; at = 0; len = 0 })
 
 -- what `margalhosa_label_part` promises: the part, and that it lies within the chart s or the table t
 pub record IsPartResult (s t : List ℕ) (l : Labelled) (r : PartResult) : Type 0 where
@@ -143,11 +140,17 @@ pub record IsPartResult (s t : List ℕ) (l : Labelled) (r : PartResult) : Type 
   pub text : LabelText s t (tabled t l)
 
 -- ---- the signal order
-abbrev pub order_result : SignalOrder → OrderResult
-order_result o = record { refused = (numbers_of o.answer).first; second = (numbers_of o.answer).second; count = o.count; nodes = o.nodes }
+abbrev pub order_by : Numbers → Nodes → OrderResult
+order_by n t = record { refused = n.first; second = n.second; count = t.count; nodes = t.items }
+
+-- the nodes of an order; of a cycle (20); else none
+abbrev pub order_result : Result Nodes NoOrder → OrderResult
+order_result (Ok t) = order_by (numbers 0 0) t
+order_result (Err (Cycle t)) = order_by (numbers 20 0) t
+order_result (Err (Refused why)) = order_by (numbers_of why) (nodes_held [])
 
 -- what `margalhosa_signal_order` promises, for every byte string s, read in the strict setting
 pub record IsOrderResult (s : List ℕ) (r : OrderResult) : Type 0 where
-  pub whole : r ≡ order_result (signal_outcome (signal s))
+  pub whole : r ≡ order_result (order_of (signal s))
   -- an order, or a cycle (20) exactly if there is one
-  pub promised : IsSignalOrder s (signal_outcome (signal s))
+  pub promised : IsSignalOrder s (order_of (signal s))

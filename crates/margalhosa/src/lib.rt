@@ -1,20 +1,23 @@
 // The operations of documents 01 and 02 for firmware in C: numbers, byte slices and structs with C's layout. include/margalhosa.h is the header.
-// In each result `refused` is the documents' number of the refusal, 0 where nothing is refused, and `second` its second number.
+// In each result `refused` is the documents' number of the refusal, 0 where nothing is refused, and `second` its second number: C has no Result.
 #![tactic(auto)]
 
-ghost use Rattle.std.specs.Prelude.{◌≡◌};
-ghost use Rattle.chart.specs.Read.{numbers_of};
-ghost use Rattle.grid.specs.Record.{box_answer_of};
+ghost use Rattle.std.specs.Prelude.{◌≡◌, ◌≤◌};
+ghost use Rattle.refusals.specs.Refusals.{numbers, numbers_of};
+ghost use Rattle.grid.specs.Record.{no_sheet, box_answer_of};
 ghost use Rattle.grid.specs.Labelled.{labelled};
 ghost use Rattle.path.specs.Reader.{read};
 ghost use Rattle.path.specs.Answers.{sheet_answer, count_of};
 ghost use Rattle.path.specs.Promises.{IsReading};
-ghost use Rattle.path.specs.Label.{label_answer_of};
-ghost use Rattle.margalhosa.specs.Results.{setting_of, IsSheetResult, no_pen, box_result, segment_result, IsSegmentResult, written_result, IsTextResult, count_result, IsRewriteResult, label_result, IsPartResult, IsOrderResult};
+ghost use Rattle.path.specs.Label.{placed_label_of};
+ghost use Rattle.margalhosa.specs.Results.{setting_of, sheet_by, IsSheetResult, no_pen, box_result, segment_by, segment_result, IsSegmentResult, IsTextResult, count_result, IsRewriteResult, label_result, IsPartResult, order_by, IsOrderResult};
 
-use chart::{Answer, Setting};
-use grid::{BoxRecord, SheetRecord};
-use path::{Counted, Given, Pen, Segment, Written};
+use chart::Setting;
+use grid::{BoxRecord, SheetRecord, no_sheet};
+use path::{Pen, Segment};
+use refusals::{Numbers, Refusal, TextRefusal};
+use signal::{CYCLE, NoOrder, Nodes};
+use tables::Table;
 
 // A sheet; refused, every field of it is 0.
 #[repr(C)]
@@ -88,23 +91,20 @@ pub struct OrderResult {
     pub nodes: [u8; 32],
 }
 
-// Document 01's number of the refusal, 0 for none.
-fn first_of(a: Answer) -> u32
-    ensures { result ≡ (numbers_of a).first }
+// The number of a refusal.
+fn first_of(why: Refusal) -> u32
+    ensures { result ≡ (numbers_of why).first }
 {
-    match a {
-        Answer::Ready => 0,
-        Answer::Refused(number, _) => number as u32,
-    }
+    why.numbers().first as u32
 }
 
 // Its second number.
-fn second_of(a: Answer) -> u32
-    ensures { result ≡ (numbers_of a).second }
+fn second_of(why: Refusal) -> u32
+    ensures { result ≡ (numbers_of why).second }
 {
-    match a {
-        Answer::Ready => 0,
-        Answer::Refused(_, second) => second,
+    match why {
+        Refusal::Outside(target) => target as u32,
+        _ => 0,
     }
 }
 
@@ -125,100 +125,77 @@ fn no_pen() -> Pen
     Pen { x: 0.0, y: 0.0 }
 }
 
-// A segment that is not refused.
-fn drawn(s: Segment) -> SegmentResult
-    ensures { result ≡ segment_result (Given.Drawn s) }
+// No segment, with the two numbers of a refusal.
+fn no_segment(n: Numbers) -> SegmentResult
+    ensures { result ≡ segment_by n 0 no_pen no_pen no_pen }
 {
     let none = no_pen();
-    match s {
-        Segment::Move(p) => SegmentResult {
-            refused: 0,
-            kind: 0,
-            second: 0,
-            control0: none,
-            control1: none,
-            to: p,
-        },
-        Segment::Line(p) => SegmentResult {
-            refused: 0,
-            kind: 1,
-            second: 0,
-            control0: none,
-            control1: none,
-            to: p,
-        },
-        Segment::Cubic(a, b, p) => SegmentResult {
-            refused: 0,
-            kind: 2,
-            second: 0,
-            control0: a,
-            control1: b,
-            to: p,
-        },
-        Segment::Close => SegmentResult {
-            refused: 0,
-            kind: 3,
-            second: 0,
-            control0: none,
-            control1: none,
-            to: none,
-        },
+    SegmentResult {
+        refused: n.first as u32,
+        kind: 0,
+        second: n.second,
+        control0: none,
+        control1: none,
+        to: none,
     }
 }
 
 // A segment, or its refusal.
-fn given(g: Given) -> SegmentResult
+fn given(g: Result<Segment, TextRefusal>) -> SegmentResult
     ensures { result ≡ segment_result g }
 {
+    let none = no_segment(Numbers {
+        first: 0,
+        second: 0,
+    });
     match g {
-        Given::Drawn(s) => drawn(s),
-        Given::Refused(number, second) => {
-            let none = no_pen();
-            SegmentResult {
-                refused: number as u32,
-                kind: 0,
-                second: second,
-                control0: none,
-                control1: none,
-                to: none,
+        Ok(Segment::Move(p)) => SegmentResult { to: p, ..none },
+        Ok(Segment::Line(p)) => SegmentResult {
+            kind: 1,
+            to: p,
+            ..none
+        },
+        Ok(Segment::Cubic(a, b, p)) => SegmentResult {
+            kind: 2,
+            control0: a,
+            control1: b,
+            to: p,
+            ..none
+        },
+        Ok(Segment::Close) => SegmentResult { kind: 3, ..none },
+        Err(r) => no_segment(r.numbers()),
+    }
+}
+
+// How many bytes were written, or how many segments a text has, or the refusal.
+fn counted(c: Result<usize, TextRefusal>) -> CountResult
+    ensures { result ≡ count_result c }
+{
+    match c {
+        Ok(count) => CountResult {
+            refused: 0,
+            second: 0,
+            count,
+        },
+        Err(r) => {
+            let n = r.numbers();
+            CountResult {
+                refused: n.first as u32,
+                second: n.second,
+                count: 0,
             }
         }
     }
 }
 
-// How many bytes were written, or the refusal.
-fn written(w: Written) -> CountResult
-    ensures { result ≡ written_result w }
+// A sheet, with the two numbers of a refusal or 0 0.
+fn sheet_by(first: u32, second: u32, sheet: SheetRecord) -> SheetResult
+    ensures { result ≡ sheet_by (numbers first second) sheet }
 {
-    match w {
-        Written::Done(n) => CountResult {
-            refused: 0,
-            second: 0,
-            count: n,
-        },
-        Written::Refused(number, second) => CountResult {
-            refused: number as u32,
-            second: second,
-            count: 0,
-        },
-    }
-}
-
-// How many segments a text has, or the refusal.
-fn counted(c: Counted) -> CountResult
-    ensures { result ≡ count_result c }
-{
-    match c {
-        Counted::Segments(n) => CountResult {
-            refused: 0,
-            second: 0,
-            count: n,
-        },
-        Counted::Refused(number, second) => CountResult {
-            refused: number as u32,
-            second: second,
-            count: 0,
-        },
+    SheetResult {
+        refused: first,
+        second,
+        sheet,
     }
 }
 
@@ -227,13 +204,9 @@ fn counted(c: Counted) -> CountResult
 pub extern "C" fn margalhosa_sheet(chart: &[u8], x: u32, y: u32, setting: u32) -> SheetResult
     ensures { IsSheetResult (setting_of setting) chart.now x y result }
 {
-    let r = grid::sheet(chart, x, y, setting_of(setting));
-    let answer = r.answer;
-    let sheet = r.sheet;
-    SheetResult {
-        refused: first_of(answer),
-        second: second_of(answer),
-        sheet: sheet,
+    match grid::sheet(chart, x, y, setting_of(setting)) {
+        Ok(sheet) => sheet_by(0, 0, sheet),
+        Err(why) => sheet_by(first_of(why), second_of(why), no_sheet()),
     }
 }
 
@@ -242,13 +215,17 @@ pub extern "C" fn margalhosa_sheet(chart: &[u8], x: u32, y: u32, setting: u32) -
 pub extern "C" fn margalhosa_box(sheet: SheetRecord, k: u32) -> BoxResult
     ensures { result ≡ box_result (box_answer_of sheet k) }
 {
-    let r = grid::box_of(sheet, k as usize);
-    let answer = r.answer;
-    let place = r.place;
-    BoxResult {
-        refused: first_of(answer),
-        second: second_of(answer),
-        place: place,
+    match grid::box_of(&sheet, k as usize) {
+        Ok(place) => BoxResult {
+            refused: 0,
+            second: 0,
+            place,
+        },
+        Err(why) => BoxResult {
+            refused: first_of(why),
+            second: second_of(why),
+            place: BoxRecord::default(),
+        },
     }
 }
 
@@ -257,7 +234,7 @@ pub extern "C" fn margalhosa_box(sheet: SheetRecord, k: u32) -> BoxResult
 pub extern "C" fn margalhosa_segment(sheet: SheetRecord, k: u32) -> SegmentResult
     ensures { IsSegmentResult k (sheet_answer sheet) result }
 {
-    given(path::sheet_segment(sheet, k as usize))
+    given(path::sheet_segment(&sheet, k as usize))
 }
 
 // The whole text of a sheet, written at the buffer's start: 14, 16. Refused, nothing is written.
@@ -265,7 +242,7 @@ pub extern "C" fn margalhosa_segment(sheet: SheetRecord, k: u32) -> SegmentResul
 pub extern "C" fn margalhosa_text(sheet: SheetRecord, buf: &mut [u8]) -> CountResult
     ensures { IsTextResult sheet buf.old result buf.new }
 {
-    written(path::write_sheet(sheet, buf))
+    counted(path::write_sheet(&sheet, buf))
 }
 
 // Where label i of box k of the chart's sheet stands, its size and its width: 1 to 15.
@@ -279,9 +256,9 @@ pub extern "C" fn margalhosa_label_place(
     k: u32,
     i: u32,
 ) -> LabelResult
-    ensures { result ≡ label_result (label_answer_of table.now (labelled (setting_of setting) chart.now x y k i)) }
+    ensures { result ≡ label_result (placed_label_of table.now (labelled (setting_of setting) chart.now x y k i)) }
 {
-    let l = path::label_place(
+    match path::label_place(
         chart,
         x,
         y,
@@ -289,15 +266,23 @@ pub extern "C" fn margalhosa_label_place(
         table,
         k as usize,
         i as usize,
-    );
-    let answer = l.answer;
-    LabelResult {
-        refused: first_of(answer),
-        second: second_of(answer),
-        x: l.x,
-        y: l.y,
-        size: l.size,
-        width: l.width,
+    ) {
+        Ok(l) => LabelResult {
+            refused: 0,
+            second: 0,
+            x: l.x,
+            y: l.y,
+            size: l.size,
+            width: l.width,
+        },
+        Err(why) => LabelResult {
+            refused: first_of(why),
+            second: second_of(why),
+            x: 0,
+            y: 0,
+            size: 0,
+            width: 0,
+        },
     }
 }
 
@@ -314,7 +299,7 @@ pub extern "C" fn margalhosa_label_part(
 ) -> PartResult
     ensures { IsPartResult chart.now table.now (labelled (setting_of setting) chart.now x y k i) result }
 {
-    let l = path::label_span(
+    match path::label_span(
         chart,
         x,
         y,
@@ -322,14 +307,21 @@ pub extern "C" fn margalhosa_label_part(
         table,
         k as usize,
         i as usize,
-    );
-    let answer = l.answer;
-    PartResult {
-        refused: first_of(answer),
-        second: second_of(answer),
-        fixed: l.fixed as u32,
-        at: l.at,
-        len: l.len,
+    ) {
+        Ok(l) => PartResult {
+            refused: 0,
+            second: 0,
+            fixed: l.fixed as u32,
+            at: l.at,
+            len: l.len,
+        },
+        Err(why) => PartResult {
+            refused: first_of(why),
+            second: second_of(why),
+            fixed: 0,
+            at: 0,
+            len: 0,
+        },
     }
 }
 
@@ -357,7 +349,20 @@ pub extern "C" fn margalhosa_rewrite(text: &[u8], buf: &mut [u8]) -> CountResult
     ensures written { IsRewriteResult text.now buf.old result buf.new }
     ensures reading { IsReading text.now }
 {
-    written(path::rewrite(text, buf))
+    counted(path::rewrite(text, buf))
+}
+
+// Nodes, with the two numbers of a refusal or 0 0.
+fn order_by(first: u32, second: u32, t: &Nodes) -> OrderResult
+    requires few { t.now.count ≤ 32 }
+    ensures { result ≡ order_by (numbers first second) t.now }
+{
+    OrderResult {
+        refused: first,
+        second,
+        count: t.count as u8,
+        nodes: t.items,
+    }
 }
 
 // The signal order of a chart's nodes: 1 to 12, then 20 with a cycle. The chart is read in the strict setting.
@@ -365,13 +370,9 @@ pub extern "C" fn margalhosa_rewrite(text: &[u8], buf: &mut [u8]) -> CountResult
 pub extern "C" fn margalhosa_signal_order(chart: &[u8]) -> OrderResult
     ensures { IsOrderResult chart.now result }
 {
-    let r = signal::signal_order(chart);
-    let answer = r.answer;
-    let nodes = r.nodes;
-    OrderResult {
-        refused: first_of(answer),
-        second: second_of(answer),
-        count: r.count,
-        nodes: nodes,
+    match signal::signal_order(chart) {
+        Ok(t) => order_by(0, 0, &t),
+        Err(NoOrder::Cycle(t)) => order_by(CYCLE as u32, 0, &t),
+        Err(NoOrder::Refused(why)) => order_by(first_of(why), second_of(why), &Table::empty(0)),
     }
 }

@@ -72,24 +72,9 @@ module _ (make : Bool) (l : List ℕ) (a c : ℕ) where
   part-most : (k : ℕ) → a ≤ k → part_at make l a c k ≤ round_at make l a c
   part-most k h = let e : a + (k - a) ≡ k = omega arith in rw e at (part-from (k - a))
 
--- ---- nothing is added yet, or nothing is to be added
+-- ---- nothing is added yet
 pub row-start : (make : Bool) (n a k : ℕ) (t : List ℕ) → n ≤ suc k → Row make n a k t t
 row-start make n a k t h = record { long = refl; did = λ c i j. sym (part_none make t a c k (omega arith)); same = λ x y i j o. refl }
-
-pub over-start : (make : Bool) (c a b : ℕ) (t : List ℕ) → c ≤ suc b → Over make c a b t t
-over-start make c a b t h = record { long = refl; more = λ y i j. absurd (omega arith); same = λ x y i j o. refl }
-
--- where the pair of a and b does not stand, no way leads over b
-pub over_none : (make : Bool) (n a b : ℕ) (t : List ℕ) → at t a b ≡ 0 → Over make n a b t t
-over_none make n a b t e =
-    record {
-      long = refl;
-      more = λ c i j. let z : way_of make t a c b ≡ 0 = rw (e, none (takes make (at t a c))) in omega arith;
-      same = λ x y i j o. refl;
-    }
-
-pub rows_start : (make : Bool) (n : ℕ) (t : List ℕ) → Rows make n 0 t t
-rows_start make n t = record { long = refl; did = λ x y i j k. absurd (omega arith); same = λ x y i j k. refl }
 
 -- ---- one way more: what is known when the code has reached c. p and q are the places of the pairs (a, c) and (b, c), x is (a, b)'s number.
 pub record Going (make : Bool) (c a b p q x : ℕ) (t r : List ℕ) : Type 0 where

@@ -9,8 +9,8 @@ use mathlib.Core.Path.{◌≡◌, refl, ap, sym, ◌∙◌}
 use mathlib.Core.Bool.{Bool, true, false, cond, ◌&&◌}
 use mathlib.Core.List.{List, [], ◌∷◌, ◌++◌}
 use lib.Dec.{eqb, ltb}
-use lib.ListN.{length, get_or, set, take, length-set, get_or-map}
-use lib.Seq.{get_or-set_same, get_or-set_other, get_or-take, take-suc, take-length}
+use lib.ListN.{length, get_or, set, take, length-map, length-set, get_or-map}
+use lib.Seq.{get_or-set_same, get_or-set_other, take-suc, take-length}
 use borrow.Author.Tests.{eq-eqb, ne_eqb, eqb-true, ltb-true, ltb-false}
 use Rattle.laws.proofs.Tests.{same?}
 use Rattle.graph.specs.Shape.{Shape}
@@ -119,20 +119,23 @@ both_at n [] k h b = absurd (not-suc-le-zero h)
 both_at n (c ∷ cs) zero h b = (b.0, b.1)
 both_at n (c ∷ cs) (suc k) h b = both_at n cs k (le_of_suc-le-suc h) b.2
 
-module _ (g : Shape) (xs : List ℕ) (c : ℕ) (d : Codes g xs c) where
-  pub nodes-at : (k : ℕ) → k < c → ((get_or (all g) k none).first < length g) × ((get_or (all g) k none).second < length g)
-  nodes-at k h = both_at (length g) (all g) k (omega (arith, d.size)) (both-all g d.aimed)
+module _ (g : Shape) (xs : List ℕ) (d : Codes g xs) where
+  pub codes-size : length (all g) ≡ length xs
+  codes-size = sym (ap (λ (v : List ℕ). length v) d.same ∙ length-map (all g) code_of)
 
-  code_at : (k : ℕ) → k < c → get_or xs k 0 ≡ code_of (get_or (all g) k none)
-  code_at k h = sym (get_or-take c xs k 0 h) ∙ ap (λ (v : List ℕ). get_or v k 0) d.same ∙ get_or-map code_of (all g) k none
+  pub nodes-at : (k : ℕ) → k < length xs → ((get_or (all g) k none).first < length g) × ((get_or (all g) k none).second < length g)
+  nodes-at k h = both_at (length g) (all g) k (omega (arith, codes-size)) (both-all g d.aimed)
 
-  pub first-at : (k : ℕ) → k < c → first_in (get_or xs k 0) ≡ (get_or (all g) k none).first
+  code_at : (k : ℕ) → k < length xs → get_or xs k 0 ≡ code_of (get_or (all g) k none)
+  code_at k h = ap (λ (v : List ℕ). get_or v k 0) d.same ∙ get_or-map code_of (all g) k none
+
+  pub first-at : (k : ℕ) → k < length xs → first_in (get_or xs k 0) ≡ (get_or (all g) k none).first
   first-at k h = let b = nodes-at k h in rw (code_at k h) (omega (arith, b.1, d.few))
 
-  pub second_at : (k : ℕ) → k < c → second_in (get_or xs k 0) ≡ (get_or (all g) k none).second
+  pub second_at : (k : ℕ) → k < length xs → second_in (get_or xs k 0) ≡ (get_or (all g) k none).second
   second_at k h = let b = nodes-at k h in rw (code_at k h) (omega (arith, b.1, d.few))
 
-  pub coded : Coded 48 xs c
+  pub coded : Coded 48 xs
   coded =
       record {
         few = omega arith;
@@ -141,7 +144,7 @@ module _ (g : Shape) (xs : List ℕ) (c : ℕ) (d : Codes g xs c) where
       }
 
   module _ (l : List ℕ) (long : length l ≡ 1128) (zeros : (i : ℕ) → get_or l i 0 ≡ 0) (a b : ℕ) (i : a < b) (j : b < 48) where
-    tallied-at : (k : ℕ) → k ≤ c → at (tallied xs l k) a b ≡ value_of packed a b (counted [] (take k (all g)))
+    tallied-at : (k : ℕ) → k ≤ length xs → at (tallied xs l k) a b ≡ value_of packed a b (counted [] (take k (all g)))
     unfolding tallied
     tallied-at zero h = zeros (pair_at a b)
     tallied-at (suc k) h =
@@ -149,14 +152,14 @@ module _ (g : Shape) (xs : List ℕ) (c : ℕ) (d : Codes g xs c) where
         let v = nodes-at k h in
         count_at (tallied xs l k) (tallied-long xs l k ∙ long) (first_in (get_or xs k 0)) (second_in (get_or xs k 0)) a b (coded.first k h) (coded.second k h) i j
         ∙ rw (first-at k h, second_at k h, tallied-at k (omega arith))
-        (sym (ap (λ (cs : List Against). value_of packed a b (counted [] cs)) (take-suc (all g) k none (omega (arith, d.size)))
+        (sym (ap (λ (cs : List Against). value_of packed a b (counted [] cs)) (take-suc (all g) k none (omega (arith, codes-size)))
         ∙ ap (value_of packed a b) (counted-end (take k (all g)) e [])
         ∙ value-count packed sums_of packed-reads a b (counted [] (take k (all g))) e i))
 
-  take_all : take c (all g) ≡ all g
-  take_all = ap (λ (k : ℕ). take k (all g)) (sym d.size) ∙ take-length (all g)
+  take_all : take (length xs) (all g) ≡ all g
+  take_all = ap (λ (k : ℕ). take k (all g)) (sym codes-size) ∙ take-length (all g)
 
-  pub hold_first : (l : List ℕ) → length l ≡ 1128 → ((i : ℕ) → get_or l i 0 ≡ 0) → Hold (length g) (first g) (tallied xs l c)
+  pub hold_first : (l : List ℕ) → length l ≡ 1128 → ((i : ℕ) → get_or l i 0 ≡ 0) → Hold (length g) (first g) (tallied xs l (length xs))
   unfolding first
   hold_first l u y a b i j =
-      tallied-at l u y a b i (omega (arith, d.few)) c (omega arith) ∙ ap (λ (cs : List Against). value_of packed a b (counted [] cs)) take_all ∙ packs a b (first g)
+      tallied-at l u y a b i (omega (arith, d.few)) (length xs) (omega arith) ∙ ap (λ (cs : List Against). value_of packed a b (counted [] cs)) take_all ∙ packs a b (first g)

@@ -72,11 +72,6 @@ pub value-missing : (w : Pair → ℕ) (a b : ℕ) (t : Table) → stands a b t 
 value-missing w a b [] h = refl
 value-missing w a b (e ∷ es) h = missing_cons (of a b e) (stands a b es) (w e) (value_of w a b es) (value-missing w a b es) h
 
--- a pair put at the end counts where none stood
-end_cons : (o : Bool) (w e v z : ℕ) → v ≡ e + z → (o ≡ true → z ≡ 0) → cond o w v ≡ cond o w e + z
-end_cons true w e v z h f = let q = f refl in omega arith
-end_cons false w e v z h f = h
-
 module _ (a b c d : ℕ) (other : (a ≡ c) × (b ≡ d) → ⊥) where
   -- no pair is that of a and b and that of c and d
   pub apart : (e : Pair) → of c d e ≡ true → of a b e ≡ false

@@ -2,14 +2,11 @@
 -- Assumes nothing.
 use Prim.Native.Nat.{ℕ, zero, suc, ◌+◌, ◌-◌, ◌*◌, ◌/◌, ◌≤◌, ◌<◌}
 use native.Mathlib.Omega.{arith}
-use native.Mathlib.Nat.{mul-le-mul, mul-suc, suc-mul}
+use native.Mathlib.Nat.{mul-suc, suc-mul}
 use mathlib.Core.Logic.{inl, inr}
 use mathlib.Core.Path.{◌≡◌, ap, ◌∙◌}
 use Rattle.laws.proofs.Tests.{less?, same?}
 use Rattle.order.specs.code.Sums.{row_at, pair_at}
-
-pub row_product : (a : ℕ) → a < 48 → a * (93 - a) ≤ 4371
-row_product a k = mul-le-mul {n₁ = a} {m₁ = 93 - a} {n₂ = 47} {m₂ = 93} (omega arith) (omega arith)
 
 -- the next row
 row_next : (a : ℕ) → a < 47 → row_at (suc a) ≡ row_at a + (46 - a)

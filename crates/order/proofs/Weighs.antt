@@ -11,7 +11,7 @@ use Rattle.order.specs.Weights.{before_of, after_of, round, first, weights}
 use Rattle.order.specs.code.Sums.{tallied, sums_of, makes₁, makes₂, round_at, Rows, RoundFits, Codes, Hold}
 use Rattle.order.proofs.Rounds.{fine-first, flagged_first}
 use Rattle.order.proofs.Hold.{made-is, stood-again}
-use Rattle.order.proofs.Start.{hold_first, tallied-long}
+use Rattle.order.proofs.Start.{codes-size, hold_first, tallied-long}
 use Rattle.order.proofs.Most.{before-made, after-made, before-most, after-most}
 
 pub zeros-at : (n i : ℕ) → ◌≡◌ {A = ℕ} (get_or (replicate n 0) i 0) 0
@@ -19,17 +19,17 @@ zeros-at zero i = refl
 zeros-at (suc n) zero = refl
 zeros-at (suc n) (suc i) = zeros-at n i
 
-module _ (g : Shape) (xs : List ℕ) (c : ℕ) (d : Codes g xs c) where
+module _ (g : Shape) (xs : List ℕ) (d : Codes g xs) where
   room : length (all g) ≤ 352
-  room = omega (arith, d.size, d.room)
+  room = omega (arith, codes-size g xs d, d.room)
 
   -- round 1: s is the table before it, r after it
-  module _ (s : List ℕ) (h : s ≡ tallied xs (replicate 1128 0) c) where
+  module _ (s : List ℕ) (h : s ≡ tallied xs (replicate 1128 0) (length xs)) where
     long : length s ≡ 1128
-    long = ap length h ∙ tallied-long xs (replicate 1128 0) c ∙ length-replicate {A = ℕ} 1128 0
+    long = ap length h ∙ tallied-long xs (replicate 1128 0) (length xs) ∙ length-replicate {A = ℕ} 1128 0
 
     hold₀ : Hold (length g) (first g) s
-    hold₀ = subst (Hold (length g) (first g)) (sym h) (hold_first g xs c d (replicate 1128 0) (length-replicate {A = ℕ} 1128 0) (zeros-at 1128))
+    hold₀ = subst (Hold (length g) (first g)) (sym h) (hold_first g xs d (replicate 1128 0) (length-replicate {A = ℕ} 1128 0) (zeros-at 1128))
 
     made : (a b : ℕ) → a < b → b < length g → round_at makes₁ s a b ≡ sums_of (before_of a b (round (first g))) (after_of a b (round (first g)))
     made a b i j = made-is (length g) (first g) (fine-first g d.aimed) s hold₀ a b i j (flagged_first g)

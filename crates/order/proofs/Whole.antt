@@ -7,15 +7,15 @@ use mathlib.Core.Path.{◌≡◌, refl, ap, sym, ◌∙◌, subst}
 use mathlib.Core.Bool.{false}
 use mathlib.Core.List.{List, [], ◌∷◌, ◌++◌, map}
 use lib.Dec.{ltb}
-use lib.ListN.{length, get_or, take, replicate, length-map, length-replicate}
-use lib.Seq.{take-suc, take-length, length-take-le, take_at}
+use lib.ListN.{length, get_or, take, replicate, length-map}
+use lib.Seq.{take-suc, take-length, take_at}
 use borrow.Author.Tests.{eq-eqb, ne_eqb, lt-ltb, le-ltb}
 use Rattle.laws.proofs.Tests.{less?, same?, pick-through}
 use Rattle.graph.specs.Shape.{Shape}
 use Rattle.order.specs.Against.{Against, all}
 use Rattle.order.specs.Weights.{Table, stands, before_of, after_of, round, first, weights}
 use Rattle.order.specs.Chains.{Triple, triple, turned, triple_of, placed, rising, triples, chains, order, columns}
-use Rattle.order.specs.Claims.{EachOnce}
+use Rattle.order.specs.Claims.{Aimed, EachOnce}
 use Rattle.order.specs.declared.chains.Held.{Held}
 use Rattle.order.specs.code.Held.{laid_first, laid_of, Ready, Fit, colour_at, place_at, column_of, columns_of}
 use Rattle.order.specs.code.Stand.{Stand}
@@ -25,10 +25,10 @@ use Rattle.order.proofs.Nodes.{Sound, Both, both-all, Firsts, firsts-map, firsts
 use Rattle.order.proofs.Fills.{filled-whole}
 use Rattle.order.proofs.Stand.{fit}
 use Rattle.order.proofs.Lay.{left, gone, going, ready, here-inside, columns-are}
-use Rattle.order.proofs.Sorted.{inserted-is, keys_long, Small, Smalls, smalls, placed_keys, stand-after, keyed}
+use Rattle.order.proofs.Sorted.{Small, Smalls, smalls, placed_keys, stand-after, keyed}
 use Rattle.order.proofs.Tables.{value-missing, before-value, after-value}
 use Rattle.order.proofs.Rounds.{Fine, fine-first, fine-round, not_rising}
-use Rattle.order.proofs.Start.{none, nodes-at, first-at, second_at}
+use Rattle.order.proofs.Start.{none, codes-size, nodes-at, first-at, second_at}
 use Rattle.order.proofs.Most.{before-most}
 
 -- ---- the key of a pair
@@ -71,7 +71,7 @@ both-take n [] (suc k) b = tt
 both-take n (c ∷ cs) (suc k) b = (b.0, b.1, both-take n cs k b.2)
 
 -- s is the table after both rounds
-module _ (g : Shape) (xs : List ℕ) (c : ℕ) (d : Codes g xs c) (s : List ℕ) (h : Hold (length g) (weights g) s) where
+module _ (g : Shape) (xs : List ℕ) (d : Codes g xs) (s : List ℕ) (h : Hold (length g) (weights g) s) where
   abbrev n : ℕ
   n = length g
 
@@ -81,10 +81,7 @@ module _ (g : Shape) (xs : List ℕ) (c : ℕ) (d : Codes g xs c) (s : List ℕ)
 
   small₂ : (p q : ℕ) → p < q → q < n → before_of p q (weights g) < 65536
   unfolding weights
-  small₂ p q i j = omega (arith, before-most g d.few d.aimed (omega (arith, d.size, d.room)) p q i j)
-
-  abbrev ks₀ : List ℕ
-  ks₀ = replicate 352 0
+  small₂ p q i j = omega (arith, before-most g d.few d.aimed (omega (arith, codes-size g xs d, d.room)) p q i j)
 
   abbrev up_to : ℕ → List Triple
   up_to k = rising [] (map (triple_of (weights g)) (take k (all g)))
@@ -94,52 +91,47 @@ module _ (g : Shape) (xs : List ℕ) (c : ℕ) (d : Codes g xs c) (s : List ℕ)
       smalls n (up_to k) d.few
       (firsts-rising n (map (triple_of (weights g)) (take k (all g))) [] tt (firsts-map n (weights g) (take k (all g)) (both-take n (all g) k (both-all g d.aimed))))
 
-  keys_are : (k : ℕ) → k ≤ c → take k (keys_after xs s ks₀ k) ≡ map key_of (up_to k)
+  keys_are : (k : ℕ) → k ≤ length xs → keys_after xs s k ≡ map key_of (up_to k)
   unfolding keys_after
   keys_are zero i = refl
   keys_are (suc k) i =
-      let v = nodes-at g xs c d k i in
+      let v = nodes-at g xs d k i in
       let key : key_at s (first_in (get_or xs k 0)) (second_in (get_or xs k 0)) ≡ key_of (triple_of (weights g) (get_or (all g) k none)) =
-      rw (first-at g xs c d k i, second_at g xs c d k i) (key_is n (weights g) fine₂ s h small₂ (get_or (all g) k none) v.0 v.1) in
-      let long : k < length (keys_after xs s ks₀ k) = omega (arith, keys_long xs s ks₀ k (omega (arith, d.room, length-replicate {A = ℕ} 352 0)), d.room, length-replicate {A = ℕ} 352 0) in
+      rw (first-at g xs d k i, second_at g xs d k i) (key_is n (weights g) fine₂ s h small₂ (get_or (all g) k none) v.0 v.1) in
       let b = firsts-map n (weights g) (get_or (all g) k none ∷ []) (v.0, v.1, tt) in
       let small : Small (triple_of (weights g) (get_or (all g) k none)) = record { first = omega (arith, b.0, d.few); second = omega (arith, b.1, d.few) } in
-      inserted-is (keys_after xs s ks₀ k) k (key_at s (first_in (get_or xs k 0)) (second_in (get_or xs k 0))) long
-      ∙ rw (key, keys_are k (omega arith)) (sym (placed_keys (triple_of (weights g) (get_or (all g) k none)) (up_to k) small (small-up_to k)))
-      ∙ ap (map key_of) (sym (ap (λ (cs : List Against). rising [] (map (triple_of (weights g)) cs)) (take-suc (all g) k none (omega (arith, d.size))) ∙ ap (rising []) (map-end (triple_of (weights g)) (take k (all g)) (get_or (all g) k none)) ∙ rising-end (map (triple_of (weights g)) (take k (all g))) [] (triple_of (weights g) (get_or (all g) k none))))
+      rw (key, keys_are k (omega arith)) (sym (placed_keys (triple_of (weights g) (get_or (all g) k none)) (up_to k) small (small-up_to k)))
+      ∙ ap (map key_of) (sym (ap (λ (cs : List Against). rising [] (map (triple_of (weights g)) cs)) (take-suc (all g) k none (omega (arith, codes-size g xs d))) ∙ ap (rising []) (map-end (triple_of (weights g)) (take k (all g)) (get_or (all g) k none)) ∙ rising-end (map (triple_of (weights g)) (take k (all g))) [] (triple_of (weights g) (get_or (all g) k none))))
 
   -- ---- the chains, and the first columns
-  up_to-all : up_to c ≡ triples g
+  up_to-all : up_to (length xs) ≡ triples g
   unfolding triples
-  up_to-all = ap (λ (cs : List Against). rising [] (map (triple_of (weights g)) cs)) (ap (λ (k : ℕ). take k (all g)) (sym d.size) ∙ take-length (all g))
+  up_to-all = ap (λ (cs : List Against). rising [] (map (triple_of (weights g)) cs)) (ap (λ (k : ℕ). take k (all g)) (sym (codes-size g xs d)) ∙ take-length (all g))
 
   abbrev ks : List ℕ
-  ks = keys_after xs s ks₀ c
+  ks = keys_after xs s (length xs)
 
-  keys_triples : take c ks ≡ map key_of (triples g)
-  keys_triples = keys_are c (omega arith) ∙ ap (map key_of) up_to-all
+  keys_triples : ks ≡ map key_of (triples g)
+  keys_triples = keys_are (length xs) (omega arith) ∙ ap (map key_of) up_to-all
 
-  keys_size : length (triples g) ≡ c
-  keys_size =
-      let f : length (map key_of (triples g)) ≡ length (triples g) = length-map (triples g) key_of in
-      let e : length (take c ks) ≡ c = length-take-le c ks (omega (arith, keys_long xs s ks₀ c (omega (arith, d.room, length-replicate {A = ℕ} 352 0)), d.room, length-replicate {A = ℕ} 352 0)) in
-      omega (arith, f, e, ap (λ (v : List ℕ). length v) keys_triples)
+  keys_size : length (triples g) ≡ length ks
+  keys_size = sym (ap (λ (v : List ℕ). length v) keys_triples ∙ length-map (triples g) key_of)
 
   firsts : Firsts n (triples g)
   firsts = firsts-triples g d.aimed
 
-  pub keyed-all : Keyed n ks c
-  keyed-all = keyed n c ks (triples g) d.few firsts keys_size keys_triples
+  pub keyed-all : Keyed n ks
+  keyed-all = keyed n ks (triples g) d.few firsts keys_triples
 
   abbrev h₁ : Held
-  h₁ = held_after n ks c
+  h₁ = held_after n ks (length ks)
 
-  take-triples : take c (triples g) ≡ triples g
+  take-triples : take (length ks) (triples g) ≡ triples g
   take-triples = ap (λ (k : ℕ). take k (triples g)) (sym keys_size) ∙ take-length (triples g)
 
   stands-all : Stand n (chains g) h₁
   unfolding chains
-  stands-all = rw take-triples at (stand-after n c ks (triples g) d.few firsts keys_size keys_triples c (omega arith))
+  stands-all = rw take-triples at (stand-after n ks (triples g) d.few firsts keys_triples (length ks) (omega arith))
 
   sound-all : Sound n (chains g)
   sound-all = sound-chains g d.aimed
@@ -157,42 +149,42 @@ module _ (g : Shape) (xs : List ℕ) (c : ℕ) (d : Codes g xs c) (s : List ℕ)
   unfolding columns order
   columns-all = columns-are n (chains g) h₁ stands-all sound-all
 
--- ---- of any graph of n nodes whose codes the first c are, and a table that has its weights
-abbrev pub keys_of : List ℕ → List ℕ → ℕ → List ℕ
-keys_of xs s c = keys_after xs s (replicate 352 0) c
+-- ---- of any graph of n nodes whose codes these are, and a table that has its weights
+abbrev pub keys_of : List ℕ → List ℕ → List ℕ
+keys_of xs s = keys_after xs s (length xs)
 
-abbrev pub held_of : List ℕ → List ℕ → ℕ → ℕ → Held
-held_of xs s c n = held_after n (keys_of xs s c) c
+abbrev pub held_of : List ℕ → List ℕ → ℕ → Held
+held_of xs s n = held_after n (keys_of xs s) (length (keys_of xs s))
 
-abbrev pub starts_of : List ℕ → List ℕ → ℕ → ℕ → List ℕ
-starts_of xs s c n = (laid_of n (laid_first (held_of xs s c n)) n).starts
+abbrev pub starts_of : List ℕ → List ℕ → ℕ → List ℕ
+starts_of xs s n = (laid_of n (laid_first (held_of xs s n)) n).starts
 
-pub few-at : (xs : List ℕ) (c n : ℕ) → Charted xs c n → n ≤ 48
-few-at xs c n w = omega (arith, w.size, w.codes.few)
+pub few-at : (xs : List ℕ) (n : ℕ) → Charted xs n → n ≤ 48
+few-at xs n w = omega (arith, w.size, w.codes.few)
 
-module _ (xs : List ℕ) (c n : ℕ) (w : Charted xs c n) (s : List ℕ) (h : Weighed xs c n s) where
+module _ (xs : List ℕ) (n : ℕ) (w : Charted xs n) (s : List ℕ) (h : Weighed xs n s) where
   held_at : Hold (length w.graph) (weights w.graph) s
   held_at = h w.graph w.codes w.size
 
-  pub keyed-at : Keyed n (keys_of xs s c) c
-  keyed-at = subst (λ (k : ℕ). Keyed k (keys_of xs s c) c) w.size (keyed-all w.graph xs c w.codes s held_at)
+  pub keyed-at : Keyed n (keys_of xs s)
+  keyed-at = subst (λ (k : ℕ). Keyed k (keys_of xs s)) w.size (keyed-all w.graph xs w.codes s held_at)
 
-  pub fit_at : Fit n (held_of xs s c n)
-  fit_at = subst (λ (k : ℕ). Fit k (held_of xs s c k)) w.size (fit_all w.graph xs c w.codes s held_at)
+  pub fit_at : Fit n (held_of xs s n)
+  fit_at = subst (λ (k : ℕ). Fit k (held_of xs s k)) w.size (fit_all w.graph xs w.codes s held_at)
 
-  pub ready_at : (i : ℕ) → i < n → Ready n (laid_of n (laid_first (held_of xs s c n)) i)
-  ready_at = subst (λ (k : ℕ). (i : ℕ) → i < k → Ready k (laid_of k (laid_first (held_of xs s c k)) i)) w.size (ready-all w.graph xs c w.codes s held_at)
+  pub ready_at : (i : ℕ) → i < n → Ready n (laid_of n (laid_first (held_of xs s n)) i)
+  ready_at = subst (λ (k : ℕ). (i : ℕ) → i < k → Ready k (laid_of k (laid_first (held_of xs s k)) i)) w.size (ready-all w.graph xs w.codes s held_at)
 
-  pub inside-at : (p : ℕ) → p < n → get_or (starts_of xs s c n) (colour_at (held_of xs s c n) p) 0 + place_at (held_of xs s c n) p < n
-  inside-at = subst (λ (k : ℕ). (p : ℕ) → p < k → get_or (starts_of xs s c k) (colour_at (held_of xs s c k) p) 0 + place_at (held_of xs s c k) p < k) w.size (inside-all w.graph xs c w.codes s held_at)
+  pub inside-at : (p : ℕ) → p < n → get_or (starts_of xs s n) (colour_at (held_of xs s n) p) 0 + place_at (held_of xs s n) p < n
+  inside-at = subst (λ (k : ℕ). (p : ℕ) → p < k → get_or (starts_of xs s k) (colour_at (held_of xs s k) p) 0 + place_at (held_of xs s k) p < k) w.size (inside-all w.graph xs w.codes s held_at)
 
 -- the whole array: the columns of n nodes, and 0 past them
-pub columns-at : (xs : List ℕ) (c n : ℕ) (s : List ℕ) → Weighed xs c n s → (g : Shape) → Codes g xs c → length g ≡ n → columns_of (held_of xs s c n) (starts_of xs s c n) n ≡ columns g ++ replicate (48 - n) 0
-columns-at xs c n s h g d e =
-    filled-whole (column_of (held_of xs s c n) (starts_of xs s c n)) n 48
-    ∙ ap (λ (v : List ℕ). v ++ replicate (48 - n) 0) (subst (λ (k : ℕ). take k (columns_of (held_of xs s c k) (starts_of xs s c k) k) ≡ columns g) e (columns-all g xs c d s (h g d e)))
+pub columns-at : (xs : List ℕ) (n : ℕ) (s : List ℕ) → Weighed xs n s → (g : Shape) → Codes g xs → length g ≡ n → columns_of (held_of xs s n) (starts_of xs s n) n ≡ columns g ++ replicate (48 - n) 0
+columns-at xs n s h g d e =
+    filled-whole (column_of (held_of xs s n) (starts_of xs s n)) n 48
+    ∙ ap (λ (v : List ℕ). v ++ replicate (48 - n) 0) (subst (λ (k : ℕ). take k (columns_of (held_of xs s k) (starts_of xs s k) k) ≡ columns g) e (columns-all g xs d s (h g d e)))
 
-pub each_at : (xs : List ℕ) (c n : ℕ) (g : Shape) → Codes g xs c → length g ≡ n → EachOnce n (take n (columns g ++ replicate (48 - n) 0))
-each_at xs c n g d e =
-    let o = subst (λ (k : ℕ). EachOnce k (columns g)) e (each-once g d.aimed) in
+pub each_at : (n : ℕ) (g : Shape) → Aimed (length g) g → length g ≡ n → EachOnce n (take n (columns g ++ replicate (48 - n) 0))
+each_at n g a e =
+    let o = subst (λ (k : ℕ). EachOnce k (columns g)) e (each-once g a) in
     rw (take_at (columns g) (replicate (48 - n) 0) n o.size) o

@@ -2,12 +2,12 @@
 -- at random. The graphs are those after module 3, and the columns those of a program that others wrote from document 01.
 -- Then ends as a caller may hand them over: linked, and not.
 -- Assumes nothing.
-use Rattle.std.specs.Prelude.{ℕ, ◌≡◌, refl, true, false, List, [], ◌∷◌, replicate}
+use Rattle.std.specs.Prelude.{ℕ, ◌≡◌, refl, List, [], ◌∷◌, Option, Some, None}
 use Rattle.laws.specs.Lists.{padded}
-use Rattle.graph.specs.declared.Ends.{Ends}
-use Rattle.graph.specs.Ends.{shape_from}
+use Rattle.graph.specs.declared.Lead.{Lead}
+use Rattle.graph.specs.Items.{Ends}
+use Rattle.graph.specs.Ends.{no_lead, shape_from}
 use Rattle.graph.specs.Shape.{Incidents}
-use Rattle.order.specs.declared.ColumnsAnswer.{ColumnsAnswer}
 use Rattle.order.specs.Chains.{columns}
 use Rattle.order.specs.Ordered.{columns_in}
 
@@ -114,20 +114,20 @@ random_5 : columns (ends (11 ∷ []) (6 ∷ []) ∷ ends (2 ∷ []) ([]) ∷ end
 unfolding columns
 random_5 = refl
 
--- the first count ends of these owners and targets
-abbrev held : ℕ → List ℕ → List ℕ → Ends
-held count owners targets = record { owner = padded 88 0 owners; to = padded 88 0 targets; count = count }
+-- the first count of these leads
+abbrev held : ℕ → List Lead → Ends
+held count leads = record { items = padded 88 no_lead leads; count = count }
+
+abbrev from : ℕ → ℕ → Lead
+from owner to = record { owner = owner; to = to }
 
 abbrev no-ends : Ends
-no-ends = held 0 [] []
+no-ends = held 0 []
 
-abbrev linked-with : List ℕ → ColumnsAnswer
-linked-with cs = record { linked = true; columns = padded 48 0 cs }
+abbrev linked-with : List ℕ → Option (List ℕ)
+linked-with cs = Some (padded 48 0 cs)
 
-abbrev not_linked : ColumnsAnswer
-not_linked = record { linked = false; columns = replicate 48 0 }
-
-ends-linked : columns_in 2 (held 1 (1 ∷ []) (0 ∷ [])) (held 1 (0 ∷ []) (1 ∷ [])) ≡ linked-with (2 ∷ 0 ∷ [])
+ends-linked : columns_in 2 (held 1 (from 1 0 ∷ [])) (held 1 (from 0 1 ∷ [])) ≡ linked-with (2 ∷ 0 ∷ [])
 unfolding columns_in columns shape_from
 ends-linked = refl
 
@@ -136,22 +136,22 @@ unfolding columns_in columns shape_from
 one-node = refl
 
 -- what is past the count is not read
-past-count : columns_in 1 (held 0 (7 ∷ []) (7 ∷ [])) no-ends ≡ linked-with (0 ∷ [])
+past-count : columns_in 1 (held 0 (from 7 7 ∷ [])) no-ends ≡ linked-with (0 ∷ [])
 unfolding columns_in columns shape_from
 past-count = refl
 
-nodes_49 : columns_in 49 no-ends no-ends ≡ not_linked
+nodes_49 : columns_in 49 no-ends no-ends ≡ None
 unfolding columns_in
 nodes_49 = refl
 
-count_89 : columns_in 2 no-ends (held 89 [] []) ≡ not_linked
+count_89 : columns_in 2 no-ends (held 89 []) ≡ None
 unfolding columns_in
 count_89 = refl
 
-owner-past : columns_in 2 no-ends (held 1 (2 ∷ []) (1 ∷ [])) ≡ not_linked
+owner-past : columns_in 2 no-ends (held 1 (from 2 1 ∷ [])) ≡ None
 unfolding columns_in
 owner-past = refl
 
-target_past : columns_in 2 (held 1 (1 ∷ []) (2 ∷ [])) no-ends ≡ not_linked
+target_past : columns_in 2 (held 1 (from 1 2 ∷ [])) no-ends ≡ None
 unfolding columns_in
 target_past = refl

@@ -1,15 +1,18 @@
 // The order of the nodes: module 4 of document 01, pair weights, and module 5, chains.
 #![tactic(auto)]
 
-ghost use Rattle.std.specs.Prelude.{◌≡◌, false, replicate};
+ghost use Rattle.std.specs.Prelude.{◌≡◌, true};
+ghost use Rattle.graph.specs.Ends.{Linked as EndsLinked};
 ghost use Rattle.graph.specs.code.Tables.{Linked, graph_of};
 ghost use Rattle.graph.specs.Shape.{shape_of};
 ghost use Rattle.order.specs.Chains.{columns};
-ghost use Rattle.order.specs.Ordered.{ready, refusal, ordered, outcome_of, IsOrder, linked_of, IsColumns};
+ghost use Rattle.order.specs.Ordered.{columns_held, IsOrder, linked_of, IsColumns};
 
-use chart::{Answer, Setting};
+use chart::Setting;
 use columns::first_of;
-use graph::{Ends, Tables};
+use graph::{Ends, Lead, Tables};
+use refusals::Refusal;
+use tables::Table;
 
 mod chains;
 mod codes;
@@ -22,108 +25,46 @@ mod weights;
 #[derive(Clone, Copy)]
 pub struct NodeNumber(pub u8);
 
-// The first count columns, that of node p at p. A refused chart has none.
-#[derive(Clone, Copy)]
-pub struct Outcome {
-    pub answer: Answer,
-    pub count: u8,
-    pub columns: [u8; 48],
-}
-
-// A refused chart.
-fn refused(number: u8, second: u32) -> Outcome
-    ensures { result ≡ outcome_of (refusal number second) }
-{
-    let none = [0u8; 48];
-    Outcome {
-        answer: Answer::Refused(number, second),
-        count: 0,
-        columns: none,
-    }
-}
+// The first columns, that of node p at p, and 0 past the last.
+pub type Columns = Table<u8, 48>;
 
 // The first columns of a graph.
-fn drawn(g: Tables) -> Outcome
+fn drawn(g: Tables) -> Columns
     requires { Linked g }
-    ensures { result ≡ outcome_of (ready (columns (shape_of (graph_of g)))) }
+    ensures { result ≡ columns_held (columns (shape_of (graph_of g))) }
 {
-    let sources = g.sources;
-    let sinks = g.sinks;
-    let columns = first_of(graph::ends_of(sources), graph::ends_of(sinks), g.n);
-    Outcome {
-        answer: Answer::Ready,
-        count: g.n as u8,
-        columns: columns,
+    let sources = graph::ends_of(g.sources);
+    let sinks = graph::ends_of(g.sinks);
+    Table {
+        items: first_of(&sources, &sinks, g.n),
+        count: g.n,
     }
 }
 
 // Each node's first column, or the first refusal of 1 to 13.
-pub fn order(chart: &[u8], setting: Setting) -> Outcome
+pub fn order(chart: &[u8], setting: Setting) -> Result<Columns, Refusal>
     ensures { IsOrder setting chart.now result }
 {
-    let r = graph::graph(chart, setting);
-    let answer = r.answer;
-    let g = r.graph;
-    match answer {
-        Answer::Ready => drawn(g),
-        Answer::Refused(number, second) => refused(number, second),
-    }
+    let g = graph::graph(chart, setting)?;
+    Ok(drawn(g))
 }
 
 // Whether each of the ends is one of n nodes' and leads to one, with no count past its array.
-fn linked(e: Ends, n: usize) -> bool
-    ensures { result ≡ linked_of n e }
+fn linked(e: &Ends, n: usize) -> bool
+    ensures test { result ≡ linked_of n e.now }
+    ensures linked { result ≡ true → EndsLinked n e.now }
 {
-    if 48 < n {
-        return false;
-    }
-    if 88 < e.count {
-        return false;
-    }
-    let mut k = 0usize;
-    while k < e.count {
-        if n <= e.owner[k] as usize {
-            return false;
-        }
-        if n <= e.to[k] as usize {
-            return false;
-        }
-        k += 1;
-    }
-    true
+    let inside = |l: &Lead| (l.owner as usize) < n && (l.to as usize) < n;
+    let leads = e.as_slice();
+    n <= 48 && e.count <= 88 && leads.iter().all(inside)
 }
 
-// Whether the ends are linked, and each node's first column: 0 past the last node, and all of them 0 where the ends are not linked.
-#[derive(Clone, Copy)]
-pub struct ColumnsAnswer {
-    pub linked: bool,
-    pub columns: [u8; 48],
-}
-
-// Ends that are not linked.
-fn not_linked() -> ColumnsAnswer
-    ensures { result ≡ record { linked = false; columns = replicate 48 0 } }
+// Each node's first column, 0 past the last node, from the sources and sinks of n nodes, which any caller may have made. Ends that are not linked have none.
+pub fn order_of(sources: &Ends, sinks: &Ends, n: usize) -> Option<[u8; 48]>
+    ensures { IsColumns n sources.now sinks.now result }
 {
-    let none = [0u8; 48];
-    ColumnsAnswer {
-        linked: false,
-        columns: none,
+    if !linked(sources, n) || !linked(sinks, n) {
+        return None;
     }
-}
-
-// Each node's first column, from the sources and sinks of n nodes, which any caller may have made.
-pub fn order_of(sources: Ends, sinks: Ends, n: usize) -> ColumnsAnswer
-    ensures { IsColumns n sources sinks result }
-{
-    if !linked(sources, n) {
-        return not_linked();
-    }
-    if !linked(sinks, n) {
-        return not_linked();
-    }
-    let columns = first_of(sources, sinks, n);
-    ColumnsAnswer {
-        linked: true,
-        columns: columns,
-    }
+    Some(first_of(sources, sinks, n))
 }

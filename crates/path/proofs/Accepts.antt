@@ -3,23 +3,22 @@ use mathlib.Core.Path.{◌≡◌, refl, sym, ◌∙◌, subst}
 use mathlib.Core.Bool.{Bool, true, false, cond, true≢false}
 use mathlib.Core.List.{List, [], ◌∷◌, ◌++◌}
 use Prim.Native.Nat.{ℕ, suc}
-use native.Mathlib.Omega.{arith}
 use lib.Dec.{eqb}
 use lib.ListN.{length}
 use Rattle.path.specs.declared.reader.Phase.TheVariants.{Letter, Digit}
 use Rattle.path.specs.declared.reader.Act.{Act}
 use Rattle.path.specs.declared.reader.Act.TheVariants.{Letter as letter, Space as space, First as first, More as more, Point as point, Half as half, Stop as stop, Stay as stay}
+use Rattle.std.specs.Prelude.{None}
 use Rattle.path.specs.declared.reader.Stand.{Stand}
-use Rattle.path.specs.declared.reader.Verdict.TheVariants.{Fine, Refused}
 use Rattle.path.specs.declared.drawn.Drawn.{Drawn}
 use Rattle.path.specs.declared.drawn.Drawn.TheVariants.{Move, Line, Cubic, Close}
 use Rattle.path.specs.Drawn.{InRange}
 use Rattle.path.specs.Text as text
 use Rattle.path.specs.Text.{numbers_of, numbers_text, rest_text, text_of, Small, Smalls, Led}
-use Rattle.path.specs.Reader.{is_begin, is_stopped, ended, act, moved, Part, Reading, step, run_from, unread, run, part_of, drawn_all, answer_of, given, segments, read}
+use Rattle.path.specs.Reader.{is_begin, ended, act, moved, Part, Reading, step, run_from, unread, run, part_of, drawn_all, segments, read}
 use Rattle.path.specs.Svg.{Command, SvgPath}
 use Rattle.path.specs.Meaning.{MeanAll}
-use Rattle.path.proofs.Readings.{read-text}
+use Rattle.path.proofs.Readings.{answered-fine, read-text}
 use Rattle.path.proofs.Keeps.{SmallParts}
 use Rattle.path.proofs.Wholes.{small_all, drawn_range}
 use Rattle.path.proofs.Derives.{derives}
@@ -44,20 +43,8 @@ run-other [] at r e = refl
 run-other (b ∷ bs) at r e =
     run-other bs (suc at) (step at r b) (moved_other (act r.stand b) at r.stand e).0 ∙ (moved_other (act r.stand b) at r.stand e).1
 
--- ---- what the answer says
-module _ (n : ℕ) (s : Stand) (xs ds : List Drawn) where
-  pub answered-fine : answer_of n s xs ≡ segments ds → (s.over ≡ false) × (s.other ≡ false) × (xs ≡ ds)
-  answered-fine = go (is_stopped s.phase) (ended s.phase s.left) s.over s.other
-    where
-      go : (a b c d : Bool) → given (cond a (Refused 17 s.place) (cond b (cond c (Refused 18 s.large) (cond d (Refused 19 0) Fine)) (Refused 17 n))) xs ≡ segments ds → (c ≡ false) × (d ≡ false) × (xs ≡ ds)
-      go true b c d e = let z : ◌≡◌ {A = ℕ} 0 1 = cc in absurd (omega arith)
-      go false true true d e = let z : ◌≡◌ {A = ℕ} 0 1 = cc in absurd (omega arith)
-      go false true false true e = let z : ◌≡◌ {A = ℕ} 0 1 = cc in absurd (omega arith)
-      go false true false false e = (refl, refl, cc)
-      go false false c d e = let z : ◌≡◌ {A = ℕ} 0 1 = cc in absurd (omega arith)
-
 module _ (s : List ℕ) (ds : List Drawn) (e : read s ≡ segments ds) where
-  fine : ((run s).stand.over ≡ false) × ((run s).stand.other ≡ false) × (drawn_all (run s).parts ≡ ds)
+  fine : (ended (run s).stand.phase (run s).stand.left ≡ true) × ((run s).stand.large ≡ None) × ((run s).stand.other ≡ false) × (drawn_all (run s).parts ≡ ds)
   fine = unfold read in answered-fine (length s) (run s).stand (drawn_all (run s).parts) ds e
 
   -- the first segment is a move
@@ -66,7 +53,7 @@ module _ (s : List ℕ) (ds : List Drawn) (e : read s ≡ segments ds) where
   read-led = go ds (sym (read-text s ds e))
     where
       told : (xs : List Drawn) → s ≡ text_of xs → (run (text_of xs)).stand.other ≡ false
-      told xs i = subst (λ (z : List ℕ). (run z).stand.other ≡ false) i fine.1
+      told xs i = subst (λ (z : List ℕ). (run z).stand.other ≡ false) i fine.2
 
       go : (xs : List Drawn) → s ≡ text_of xs → Led xs
       go [] i = text.none
@@ -92,7 +79,7 @@ drawn-smalls (p ∷ ps) h = smalls-more (drawn_all ps) (part_of p) (drawn-smalls
 module _ (s : List ℕ) (ds : List Drawn) (e : read s ≡ segments ds) where
   -- no number is above the limit
   pub read-smalls : Smalls ds
-  read-smalls = subst Smalls (fine s ds e).2 (drawn-smalls (run s).parts (small_all s (fine s ds e).0))
+  read-smalls = subst Smalls (fine s ds e).3 (drawn-smalls (run s).parts (small_all s (fine s ds e).1))
 
   -- every text that is read derives, and its commands are what is read
   pub read-derives : (cs : List Command) × SvgPath s cs × MeanAll cs ds

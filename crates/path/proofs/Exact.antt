@@ -5,10 +5,10 @@ use mathlib.Core.Bool.{true, false, true≢false}
 use Prim.Native.Nat.{ℕ, ◌+◌, ◌-◌, ◌*◌, ◌/◌, ◌^◌, ◌≤◌, ◌<◌}
 use native.Mathlib.Nat.{mul-pos, mul-one, one-mul, le_of_eq, mul_assoc, mul_comm, mul_left_comm, mul-mul-mul_comm, add-mul, eq-or-lt_of_le, lt_of_lt_of_le, lt_of_le_of_lt, mul-div_cancel}
 use native.Mathlib.Omega.{arith}
-use lib.Dec.{T, lit<, lit≤, le→leb}
+use lib.Dec.{lit<, lit≤}
 use lib.IntN.{pos, negsuc}
 use lib.Pow.{pow-add, pow_pos, pow_mono, pow-lt, shl_lt}
-use lib.Ieee.{Float, nan, inf, fin, Format, binary32, up, down, round, add, mul, of_int, of_bits, in_float}
+use lib.Ieee.{Float, nan, inf, fin, Format, binary32, up, down, round, add, mul, of_int, of_bits}
 use lib.Ieee.Fits.{down_pos}
 use lib.Ieee.Exact.{HasValue, round_exact}
 use lib.Ieee.Scale.{round_same}
@@ -102,11 +102,6 @@ pub back : (h : ℕ) → h ≤ 2 ^ 24 → halves_of (halves h) ≡ h
 back h l = value-back (halves h) h (exact h l)
 
 -- ---- what the code does, as MIR has it: a literal is its bit pattern
--- a cast of a whole number up to 2 ^ 24 loses nothing
-pub castable : (n : ℕ) → n ≤ 2 ^ 24 → T (in_float binary32 (pos n))
-unfolding in_float
-castable n l = le→leb n (2 ^ 24) l
-
 one_each : (a b : ℕ) → a * 1 + b * 1 ≡ a + b
 one_each a b = omega arith
 

@@ -11,23 +11,34 @@ use lib.Dec.{eqb, leb, ltb}
 use lib.ListN.{length, take, get_or}
 use lib.Seq.{take-length}
 use Rattle.laws.proofs.Tests.{and_false}
+use Rattle.refusals.specs.declared.TextRefusal.TheVariants.{NotProfile}
 use Rattle.path.specs.declared.reader.Phase.{Phase}
 use Rattle.path.specs.declared.reader.Phase.TheVariants.{Begin, Letter, Lettered, Digit, Number, Point, Halved, Stopped}
 use Rattle.path.specs.declared.reader.Act.{Act}
 use Rattle.path.specs.declared.reader.Act.TheVariants.{Letter as letter, Space as space, First as first, More as more, Point as point, Half as half, Stop as stop, Stay as stay}
 use Rattle.path.specs.declared.reader.Stand.{Stand}
-use Rattle.path.specs.declared.reader.Verdict.TheVariants.{Fine, Refused}
 use Rattle.path.specs.declared.drawn.Drawn.{Drawn}
 use Rattle.path.specs.Number.{limit, digits, number_text}
 use Rattle.path.specs.Text.{letter_of, numbers_of, numbers_text, segment_text, rest_text, text_of}
 use Rattle.path.specs.Profile.{IsProfile, Continues, Refusal}
-use Rattle.path.specs.Reader.{act_of, act, grown, moved, Part, Reading, step, run_from, unread, run, drawn_all, ended, is_stopped, given, refused, read}
+use Rattle.path.specs.Reader.{act_of, act, grown, moved, Part, Reading, step, run_from, unread, run, drawn_all, ended, broken_at, refused, read}
 use Rattle.path.proofs.Numbers.{digits-one, digits-tens, text-whole, text-half}
 use Rattle.path.proofs.Backs.{words_back, front, back, whole, back-text}
 use Rattle.path.proofs.Backs as backs
-use Rattle.path.proofs.Readings.{part, Last, begin, after_segment, after_letter, after_space, in_number, after_point, after_half, Held, held, halted, read_held}
+use Rattle.path.proofs.Readings.{part, Last, begin, after_segment, after_letter, after_space, in_number, after_point, after_half, Held, held, halted, read_held, refused-told}
 use Rattle.path.proofs.Wholes.{read_next}
 use Rattle.path.proofs.Writings.{run-append, is_word, a-digit, letter_wants}
+
+-- a byte was refused
+abbrev is_stopped : Phase → Bool
+is_stopped Begin = false
+is_stopped Letter = false
+is_stopped Lettered = false
+is_stopped Digit = false
+is_stopped Number = false
+is_stopped Point = false
+is_stopped Halved = false
+is_stopped (Stopped q) = true
 
 -- ---- a profile text is taken to its end
 -- at the end of a word, with l numbers to come
@@ -53,7 +64,7 @@ space-act Digit v e = absurd (false≢true e)
 space-act Number v e = rw (and_false (not (eqb v 0)))
 space-act Point v e = absurd (false≢true e)
 space-act Halved v e = refl
-space-act Stopped v e = absurd (false≢true e)
+space-act (Stopped q) v e = absurd (false≢true e)
 
 space-taken : (at l : ℕ) (r : Reading) → Taken r l → ((step at r 32).stand.phase ≡ cond (eqb l 0) Letter Digit) × ((step at r 32).stand.left ≡ l)
 space-taken at l r t =
@@ -164,7 +175,7 @@ word-ended Digit l e z = absurd (false≢true e)
 word-ended Number l e z = eq-eqb l 0 z
 word-ended Point l e z = absurd (false≢true e)
 word-ended Halved l e z = eq-eqb l 0 z
-word-ended Stopped l e z = absurd (false≢true e)
+word-ended (Stopped q) l e z = absurd (false≢true e)
 
 pub text-ended : (ds : List Drawn) → ended (run (text_of ds)).stand.phase (run (text_of ds)).stand.left ≡ true
 unfolding run text_of
@@ -243,7 +254,7 @@ stay_act Digit v b e = absurd (false≢true e)
 stay_act Number v b e = absurd (false≢true e)
 stay_act Point v b e = absurd (false≢true e)
 stay_act Halved v b e = absurd (false≢true e)
-stay_act Stopped v b e = refl
+stay_act (Stopped q) v b e = refl
 
 stays : (at b : ℕ) (r : Reading) → is_stopped r.stand.phase ≡ true → (step at r b).stand ≡ r.stand
 stays at b r e = step_as at b r stay (stay_act r.stand.phase r.stand.value b e)
@@ -252,7 +263,7 @@ run-stopped : (bs : List ℕ) (at : ℕ) (r : Reading) → is_stopped r.stand.ph
 run-stopped [] at r e = e
 run-stopped (b ∷ bs) at r e = run-stopped bs (suc at) (step at r b) (ap (λ (y : Stand). is_stopped y.phase) (stays at b r e) ∙ e)
 
-pub ended-going : (p : Phase) (l : ℕ) → ended p l ≡ true → is_stopped p ≡ true → ⊥
+ended-going : (p : Phase) (l : ℕ) → ended p l ≡ true → is_stopped p ≡ true → ⊥
 ended-going Begin l e z = false≢true z
 ended-going Letter l e z = false≢true z
 ended-going Lettered l e z = false≢true z
@@ -260,7 +271,7 @@ ended-going Digit l e z = false≢true z
 ended-going Number l e z = false≢true z
 ended-going Point l e z = false≢true z
 ended-going Halved l e z = false≢true z
-ended-going Stopped l e z = false≢true e
+ended-going (Stopped q) l e z = false≢true e
 
 pub continues_going : (t : List ℕ) → Continues t → is_stopped (run t).stand.phase ≡ true → ⊥
 unfolding run
@@ -271,65 +282,85 @@ continues_going t c z =
     ∙ run-stopped c.1 (0 + length t) (run t) z)
 
 -- ---- the place of the byte refused
-stop_now : (a : Act) (at : ℕ) (s : Stand) → is_stopped s.phase ≡ false → is_stopped (moved a at s).phase ≡ true → (moved a at s).place ≡ at
-stop_now (letter b) at s e z = absurd (false≢true z)
-stop_now space at s e z = go (eqb s.left 0) z
+stop_now : (a : Act) (at p : ℕ) (s : Stand) → is_stopped s.phase ≡ false → (moved a at s).phase ≡ Stopped p → at ≡ p
+stop_now (letter b) at p s e z = absurd cc
+stop_now space at p s e z = go (eqb s.left 0) z
   where
-    go : (t : Bool) → is_stopped (cond t Letter Digit) ≡ true → s.place ≡ at
-    go true y = absurd (false≢true y)
-    go false y = absurd (false≢true y)
-stop_now (first d) at s e z = absurd (false≢true z)
-stop_now (more d) at s e z = absurd (false≢true z)
-stop_now point at s e z = absurd (false≢true z)
-stop_now half at s e z = absurd (false≢true z)
-stop_now stop at s e z = refl
-stop_now stay at s e z = absurd (true≢false (sym z ∙ e))
+    go : (t : Bool) → cond t Letter Digit ≡ Stopped p → at ≡ p
+    go true y = absurd cc
+    go false y = absurd cc
+stop_now (first d) at p s e z = absurd cc
+stop_now (more d) at p s e z = absurd cc
+stop_now point at p s e z = absurd cc
+stop_now half at p s e z = absurd cc
+stop_now stop at p s e z = cc
+stop_now stay at p s e z = absurd (true≢false (ap is_stopped (sym z) ∙ e))
 
 record Stop (s : List ℕ) (i p : ℕ) : Type 0 where
   below : p < i
   before : is_stopped (run (take p s)).stand.phase ≡ false
   after : is_stopped (run (take (suc p) s)).stand.phase ≡ true
 
-stop_place : (s : List ℕ) (i : ℕ) → i ≤ length s → is_stopped (run (take i s)).stand.phase ≡ true → Stop s i (run (take i s)).stand.place
-stop_place s zero h z = absurd (false≢true (unfold run in z))
-stop_place s (suc i) h z = go (is_stopped (run (take i s)).stand.phase) refl (λ (y : is_stopped (run (take i s)).stand.phase ≡ true). stop_place s i (omega arith) y)
+none_stopped : (p : ℕ) → (run []).stand.phase ≡ Stopped p → ⊥
+unfolding run
+none_stopped p z = cc
+
+stop_place : (s : List ℕ) (i p : ℕ) → i ≤ length s → (run (take i s)).stand.phase ≡ Stopped p → Stop s i p
+stop_place s zero p h z = absurd (none_stopped p z)
+stop_place s (suc i) p h z = go (is_stopped (run (take i s)).stand.phase) refl (λ (y : (run (take i s)).stand.phase ≡ Stopped p). stop_place s i p (omega arith) y)
   where
     e : run (take (suc i) s) ≡ step i (run (take i s)) (get_or s i 0)
     e = read_next s i (omega arith)
 
-    go : (t : Bool) → is_stopped (run (take i s)).stand.phase ≡ t → (is_stopped (run (take i s)).stand.phase ≡ true → Stop s i (run (take i s)).stand.place) → Stop s (suc i) (run (take (suc i) s)).stand.place
+    go : (t : Bool) → is_stopped (run (take i s)).stand.phase ≡ t → ((run (take i s)).stand.phase ≡ Stopped p → Stop s i p) → Stop s (suc i) p
     go true y j =
-        let k : Stop s i (run (take i s)).stand.place = j y in
-        subst (λ (q : ℕ). Stop s (suc i) q) (sym (ap (λ (x : Reading). x.stand.place) e ∙ ap (λ (x : Stand). x.place) (stays i (get_or s i 0) (run (take i s)) y)))
-        (record { below = omega (arith, k.below); before = k.before; after = k.after })
+        let k : Stop s i p = j (sym (ap (λ (x : Stand). x.phase) (stays i (get_or s i 0) (run (take i s)) y)) ∙ ap (λ (x : Reading). x.stand.phase) (sym e) ∙ z) in
+        record { below = omega (arith, k.below); before = k.before; after = k.after }
     go false y j =
-        subst (λ (q : ℕ). Stop s (suc i) q) (sym (ap (λ (x : Reading). x.stand.place) e ∙ stop_now (act (run (take i s)).stand (get_or s i 0)) i (run (take i s)).stand y (sym (ap (λ (x : Reading). is_stopped x.stand.phase) e) ∙ z)))
-        (record { below = omega arith; before = y; after = z })
+        let k : i ≡ p = stop_now (act (run (take i s)).stand (get_or s i 0)) i p (run (take i s)).stand y (sym (ap (λ (x : Reading). x.stand.phase) e) ∙ z) in
+        subst (λ (q : ℕ). Stop s (suc i) q) k (record { below = omega arith; before = y; after = ap is_stopped z })
 
 pub going_on : (t : List ℕ) → is_stopped (run t).stand.phase ≡ false → Continues t
 going_on t z = goes (run t).stand.phase (run t).stand.left (run t).stand.value (run t).parts t (read_held t) z
 
 -- ---- 17
-pub refused_17 : (s : List ℕ) (p : ℕ) → read s ≡ refused 17 p → Refusal s p
-unfolding read
-refused_17 s p e = go (is_stopped (run s).stand.phase) (ended (run s).stand.phase (run s).stand.left) (run s).stand.over (run s).stand.other refl refl e
+broken-stopped : (n : ℕ) (p : Phase) → is_stopped p ≡ true → p ≡ Stopped (broken_at n p)
+broken-stopped n Begin e = absurd (false≢true e)
+broken-stopped n Letter e = absurd (false≢true e)
+broken-stopped n Lettered e = absurd (false≢true e)
+broken-stopped n Digit e = absurd (false≢true e)
+broken-stopped n Number e = absurd (false≢true e)
+broken-stopped n Point e = absurd (false≢true e)
+broken-stopped n Halved e = absurd (false≢true e)
+broken-stopped n (Stopped q) e = refl
+
+broken-off : (n : ℕ) (p : Phase) → is_stopped p ≡ false → broken_at n p ≡ n
+broken-off n Begin e = refl
+broken-off n Letter e = refl
+broken-off n Lettered e = refl
+broken-off n Digit e = refl
+broken-off n Number e = refl
+broken-off n Point e = refl
+broken-off n Halved e = refl
+broken-off n (Stopped q) e = absurd (true≢false e)
+
+pub refused_17 : (s : List ℕ) (p : ℕ) → read s ≡ refused (NotProfile p) → Refusal s p
+refused_17 s p e = go (is_stopped (run s).stand.phase) refl
   where
-    stopped : is_stopped (run s).stand.phase ≡ true → Stop s (length s) (run s).stand.place
-    stopped z = subst (λ (y : List ℕ). Stop s (length s) (run y).stand.place) (take-length s) (stop_place s (length s) (omega arith) (subst (λ (y : List ℕ). is_stopped (run y).stand.phase ≡ true) (sym (take-length s)) z))
+    told : (ended (run s).stand.phase (run s).stand.left ≡ false) × (p ≡ broken_at (length s) (run s).stand.phase)
+    told = refused-told (length s) (run s).stand (drawn_all (run s).parts) (NotProfile p) (unfold read in e)
 
-    at_stop : (q : ℕ) → Stop s (length s) q → Refusal s q
-    at_stop q k = record { before = going_on (take q s) k.before; after = inl (k.below, λ (c : Continues (take (suc q) s)). continues_going (take (suc q) s) c k.after) }
+    at_stop : Stop s (length s) p → Refusal s p
+    at_stop k = record { before = going_on (take p s) k.before; after = inl (k.below, λ (c : Continues (take (suc p) s)). continues_going (take (suc p) s) c k.after) }
 
-    go : (a b c d : Bool) → is_stopped (run s).stand.phase ≡ a → ended (run s).stand.phase (run s).stand.left ≡ b
-        → given (cond a (Refused 17 (run s).stand.place) (cond b (cond c (Refused 18 (run s).stand.large) (cond d (Refused 19 0) Fine)) (Refused 17 (length s)))) (drawn_all (run s).parts) ≡ refused 17 p → Refusal s p
-    go true b c d z y i = let q : (run s).stand.place ≡ p = cc in subst (Refusal s) q (at_stop (run s).stand.place (stopped z))
-    go false true true d z y i = let q : ◌≡◌ {A = ℕ} 18 17 = cc in absurd (omega arith)
-    go false true false true z y i = let q : ◌≡◌ {A = ℕ} 19 17 = cc in absurd (omega arith)
-    go false true false false z y i = let q : ◌≡◌ {A = ℕ} 0 1 = cc in absurd (omega arith)
-    go false false c d z y i =
-        let q : length s ≡ p = cc in
+    go : (a : Bool) → is_stopped (run s).stand.phase ≡ a → Refusal s p
+    go true z =
+        let q : (run s).stand.phase ≡ Stopped p = broken-stopped (length s) (run s).stand.phase z ∙ ap Stopped (sym told.1) in
+        at_stop (stop_place s (length s) p (omega arith) (subst (λ (y : List ℕ). (run y).stand.phase ≡ Stopped p) (sym (take-length s)) q))
+    go false z =
+        let q : length s ≡ p = sym (told.1 ∙ broken-off (length s) (run s).stand.phase z) in
         subst (Refusal s) q
         (record {
           before = subst Continues (sym (take-length s)) (going_on s z);
-          after = inr (refl, λ (k : IsProfile s). true≢false (sym (subst (λ (x : List ℕ). ended (run x).stand.phase (run x).stand.left ≡ true) k.1 (text-ended k.0)) ∙ y));
+          after = inr (refl, λ (k : IsProfile s). true≢false (sym (subst (λ (x : List ℕ). ended (run x).stand.phase (run x).stand.left ≡ true) k.1 (text-ended k.0)) ∙ told.0));
         })

@@ -1,12 +1,13 @@
 -- What the pass keeps is what the reader has read: the count of segments, and segment k, as long as no number was too large. Assumes nothing.
 use mathlib.Core.Path.{◌≡◌, refl, sym, ap, ◌∙◌}
-use mathlib.Core.Bool.{Bool, true, false, cond, not, ◌&&◌, ◌||◌, true≢false}
+use mathlib.Core.Bool.{Bool, true, false, cond, not, ◌&&◌}
 use mathlib.Core.List.{List, [], ◌∷◌}
 use Prim.Native.Nat.{ℕ, suc, ◌+◌, ◌-◌, ◌*◌, ◌≤◌, ◌<◌}
 use native.Mathlib.Omega.{arith}
 use borrow.Author.Tests.{eqb-true, eqb-false, eq-eqb, ne_eqb, leb-false, ltb-false, le-leb}
 use lib.Dec.{eqb, leb, ltb}
 use lib.ListN.{length, get_or}
+use Rattle.std.specs.Prelude.{Option, Some, None}
 use Rattle.path.specs.declared.reader.Phase.{Phase}
 use Rattle.path.specs.declared.reader.Phase.TheVariants.{Begin, Letter, Lettered, Digit, Number, Point, Halved, Stopped}
 use Rattle.path.specs.declared.reader.Act.{Act}
@@ -14,9 +15,9 @@ use Rattle.path.specs.declared.reader.Act.TheVariants.{Letter as letter, Space a
 use Rattle.path.specs.declared.reader.Stand.{Stand}
 use Rattle.path.specs.declared.pass.Kept.{Kept}
 use Rattle.path.specs.Number.{limit, limit_halves}
-use Rattle.path.specs.Reader.{is_letter, is_digit, on_space, on_letter, act_of, grown, moved, gained, Part}
+use Rattle.path.specs.Reader.{is_letter, is_digit, on_space, on_letter, act_of, grown, first_large, moved, gained, Part}
 use Rattle.path.specs.code.Pass.{six_of, kept_of, begins}
-use Rattle.path.proofs.Readings.{choose, digit-small, part, Held, held, halted, begin, after_segment, after_letter, after_space, in_number, after_point, after_half}
+use Rattle.path.proofs.Readings.{choose, digit-small, part, stand_by, Held, held, halted, begin, after_segment, after_letter, after_space, in_number, after_point, after_half}
 
 -- the part with k parts before it
 abbrev pub nth : ℕ → List Part → Part
@@ -47,13 +48,13 @@ Doubled Digit v ps = Unit {0}
 Doubled Number v ps = newest ps ≡ 2 * v
 Doubled Point v ps = newest ps ≡ 2 * v
 Doubled Halved v ps = Unit {0}
-Doubled Stopped v ps = Unit {0}
+Doubled (Stopped q) v ps = Unit {0}
 
 pub record Keeps (k : ℕ) (s : Stand) (ps : List Part) (n : ℕ) (kk : Kept) : Type 0 where
   pub counted : n ≡ length ps
-  pub kept : s.over ≡ false → kk ≡ kept_for (nth k ps)
-  pub doubled : s.over ≡ false → Doubled s.phase s.value ps
-  pub small : s.over ≡ false → SmallParts ps
+  pub kept : s.large ≡ None → kk ≡ kept_for (nth k ps)
+  pub doubled : s.large ≡ None → Doubled s.phase s.value ps
+  pub small : s.large ≡ None → SmallParts ps
 
 -- ---- the k-th part
 past : (k : ℕ) (ps : List Part) → length ps ≤ k → nth k ps ≡ part 0 []
@@ -95,26 +96,27 @@ same_kept true kk = refl
 same_kept false kk = refl
 
 -- ---- a number that is not marked
-not_or : (a b : Bool) → (a || b) ≡ false → (a ≡ false) × (b ≡ false)
-not_or true b e = absurd (true≢false e)
-not_or false b e = (refl, e)
+not-first : (too : Bool) (at : ℕ) (o : Option ℕ) → first_large too at o ≡ None → (too ≡ false) × (o ≡ None)
+not-first too at (Some p) e = absurd cc
+not-first true at None e = absurd cc
+not-first false at None e = (refl, refl)
 
 abbrev pub Next : ℕ → Stand → List Part → ℕ → ℕ → Kept → Act → Type 0
 Next k s ps at n kk a = Keeps k (moved a at s) (gained a ps) (n + begins a) (cond (eqb (n + begins a) (k + 1)) (kept_of a (moved a at s).value kk) kk)
 
 module _ (k : ℕ) (s : Stand) (at n : ℕ) (kk : Kept) where
   -- nothing is read, and the phase is none in a number
-  still : (p : Phase) (ps : List Part) (x : Keeps k s ps n kk) (r : Stand) → r.over ≡ s.over → (s.over ≡ false → Doubled r.phase r.value ps) → Keeps k r ps (n + 0) (cond (eqb (n + 0) (k + 1)) kk kk)
+  still : (p : Phase) (ps : List Part) (x : Keeps k s ps n kk) (r : Stand) → r.large ≡ s.large → (s.large ≡ None → Doubled r.phase r.value ps) → Keeps k r ps (n + 0) (cond (eqb (n + 0) (k + 1)) kk kk)
   still p ps x r o d =
       record {
         counted = omega (arith, x.counted);
-        kept = λ (e : r.over ≡ false). same_kept (eqb (n + 0) (k + 1)) kk ∙ x.kept (sym o ∙ e);
-        doubled = λ (e : r.over ≡ false). d (sym o ∙ e);
-        small = λ (e : r.over ≡ false). x.small (sym o ∙ e);
+        kept = λ (e : r.large ≡ None). same_kept (eqb (n + 0) (k + 1)) kk ∙ x.kept (sym o ∙ e);
+        doubled = λ (e : r.large ≡ None). d (sym o ∙ e);
+        small = λ (e : r.large ≡ None). x.small (sym o ∙ e);
       }
 
   stopped : (ps : List Part) → Keeps k s ps n kk → Next k s ps at n kk stop
-  stopped ps x = still Stopped ps x (moved stop at s) refl (λ e. tt)
+  stopped ps x = still (Stopped at) ps x (moved stop at s) refl (λ e. tt)
 
   spaced : (ps : List Part) → Keeps k s ps n kk → Next k s ps at n kk space
   spaced ps x = still Letter ps x (moved space at s) refl (λ e. go (eqb s.left 0))
@@ -127,18 +129,18 @@ module _ (k : ℕ) (s : Stand) (at n : ℕ) (kk : Kept) where
   lettered b ps x =
       record {
         counted = omega (arith, x.counted);
-        kept = λ (e : s.over ≡ false). letter-kept k n b ps kk x.counted (x.kept e);
+        kept = λ (e : s.large ≡ None). letter-kept k n b ps kk x.counted (x.kept e);
         doubled = λ e. tt;
-        small = λ (e : s.over ≡ false). (tt, x.small e);
+        small = λ (e : s.large ≡ None). (tt, x.small e);
       }
 
   begun : (d b : ℕ) (hs : List ℕ) (ps : List Part) → d < 10 → Keeps k s (part b hs ∷ ps) n kk → Next k s (part b hs ∷ ps) at n kk (first d)
   begun d b hs ps h x =
       record {
         counted = omega (arith, x.counted);
-        kept = λ (e : s.over ≡ false). head-kept k n b hs (2 * d ∷ hs) ps kk (kept_of (first d) d kk) x.counted (x.kept e) (λ (z : kk ≡ kept_for (part b hs)). rw z);
+        kept = λ (e : s.large ≡ None). head-kept k n b hs (2 * d ∷ hs) ps kk (kept_of (first d) d kk) x.counted (x.kept e) (λ (z : kk ≡ kept_for (part b hs)). rw z);
         doubled = λ e. refl;
-        small = λ (e : s.over ≡ false). ((omega arith, (x.small e).0), (x.small e).1);
+        small = λ (e : s.large ≡ None). ((omega arith, (x.small e).0), (x.small e).1);
       }
 
 head_small : (b h : ℕ) (hs : List ℕ) (ps : List Part) → SmallParts (part b (h ∷ hs) ∷ ps) → h ≤ limit_halves
@@ -147,9 +149,9 @@ head_small b h hs ps y = y.0.0
 new-small : (b h g : ℕ) (hs : List ℕ) (ps : List Part) → g ≤ limit_halves → SmallParts (part b (h ∷ hs) ∷ ps) → SmallParts (part b (g ∷ hs) ∷ ps)
 new-small b h g hs ps l y = ((l, y.0.1), y.1)
 
-module _ (k : ℕ) (s : Stand) (at n : ℕ) (kk : Kept) (b h : ℕ) (hs : List ℕ) (ps : List Part) (x : Keeps k s (part b (h ∷ hs) ∷ ps) n kk) (w : s.over ≡ false → h ≡ 2 * s.value) where
+module _ (k : ℕ) (s : Stand) (at n : ℕ) (kk : Kept) (b h : ℕ) (hs : List ℕ) (ps : List Part) (x : Keeps k s (part b (h ∷ hs) ∷ ps) n kk) (w : s.large ≡ None → h ≡ 2 * s.value) where
   -- one more digit of a number that is not too large
-  grown-is : (d : ℕ) → s.over ≡ false → (grown s.value d ≡ 10 * s.value + d) × (10 * h + 2 * d ≡ 2 * (10 * s.value + d))
+  grown-is : (d : ℕ) → s.large ≡ None → (grown s.value d ≡ 10 * s.value + d) × (10 * h + 2 * d ≡ 2 * (10 * s.value + d))
   grown-is d e =
       let l : s.value ≤ limit = omega (arith, head_small b h hs ps (x.small e), w e) in
       (rw (le-leb s.value limit l), omega (arith, w e))
@@ -158,16 +160,16 @@ module _ (k : ℕ) (s : Stand) (at n : ℕ) (kk : Kept) (b h : ℕ) (hs : List �
   grew d =
       record {
         counted = omega (arith, x.counted);
-        kept = λ (e : (ltb limit (grown s.value d) || s.over) ≡ false).
-            let o : s.over ≡ false = (not_or (ltb limit (grown s.value d)) s.over e).1 in
+        kept = λ (e : first_large (ltb limit (grown s.value d)) s.begun s.large ≡ None).
+            let o : s.large ≡ None = (not-first (ltb limit (grown s.value d)) s.begun s.large e).1 in
             let q : 2 * grown s.value d ≡ 10 * h + 2 * d = ap (λ (z : ℕ). 2 * z) (grown-is d o).0 ∙ sym (grown-is d o).1 in
             head-kept k n b (h ∷ hs) ((10 * h + 2 * d) ∷ hs) ps kk (kept_of (more d) (grown s.value d) kk) x.counted (x.kept o) (λ (z : kk ≡ kept_for (part b (h ∷ hs))). rw (z, q));
-        doubled = λ (e : (ltb limit (grown s.value d) || s.over) ≡ false).
-            let o : s.over ≡ false = (not_or (ltb limit (grown s.value d)) s.over e).1 in
+        doubled = λ (e : first_large (ltb limit (grown s.value d)) s.begun s.large ≡ None).
+            let o : s.large ≡ None = (not-first (ltb limit (grown s.value d)) s.begun s.large e).1 in
             (grown-is d o).1 ∙ ap (λ (z : ℕ). 2 * z) (sym (grown-is d o).0);
-        small = λ (e : (ltb limit (grown s.value d) || s.over) ≡ false).
-            let o : s.over ≡ false = (not_or (ltb limit (grown s.value d)) s.over e).1 in
-            let l : grown s.value d ≤ limit = ltb-false limit (grown s.value d) (not_or (ltb limit (grown s.value d)) s.over e).0 in
+        small = λ (e : first_large (ltb limit (grown s.value d)) s.begun s.large ≡ None).
+            let o : s.large ≡ None = (not-first (ltb limit (grown s.value d)) s.begun s.large e).1 in
+            let l : grown s.value d ≤ limit = ltb-false limit (grown s.value d) (not-first (ltb limit (grown s.value d)) s.begun s.large e).0 in
             new-small b h (10 * h + 2 * d) hs ps (omega (arith, (grown-is d o).0, (grown-is d o).1, l)) (x.small o);
       }
 
@@ -178,14 +180,14 @@ module _ (k : ℕ) (s : Stand) (at n : ℕ) (kk : Kept) (b h : ℕ) (hs : List �
   halved =
       record {
         counted = omega (arith, x.counted);
-        kept = λ (e : (leb limit s.value || s.over) ≡ false).
-            let o : s.over ≡ false = (not_or (leb limit s.value) s.over e).1 in
+        kept = λ (e : first_large (leb limit s.value) s.begun s.large ≡ None).
+            let o : s.large ≡ None = (not-first (leb limit s.value) s.begun s.large e).1 in
             let q : 2 * s.value + 1 ≡ h + 1 = omega (arith, w o) in
             head-kept k n b (h ∷ hs) ((h + 1) ∷ hs) ps kk (kept_of half s.value kk) x.counted (x.kept o) (λ (z : kk ≡ kept_for (part b (h ∷ hs))). rw (z, q));
         doubled = λ e. tt;
-        small = λ (e : (leb limit s.value || s.over) ≡ false).
-            let o : s.over ≡ false = (not_or (leb limit s.value) s.over e).1 in
-            let l : s.value < limit = leb-false limit s.value (not_or (leb limit s.value) s.over e).0 in
+        small = λ (e : first_large (leb limit s.value) s.begun s.large ≡ None).
+            let o : s.large ≡ None = (not-first (leb limit s.value) s.begun s.large e).1 in
+            let l : s.value < limit = leb-false limit s.value (not-first (leb limit s.value) s.begun s.large e).0 in
             new-small b h (h + 1) hs ps (omega (arith, w o, l)) (x.small o);
       }
 
@@ -203,35 +205,35 @@ module _ (k : ℕ) (s : Stand) (at n : ℕ) (kk : Kept) (c : ℕ) where
       (λ (e : is_digit c ≡ true). begun k s at n kk (c - 48) b hs ps (digit-small c e).0 x)
       (λ e. stopped k s at n kk (part b hs ∷ ps) x)
 
-  on-number : (b h : ℕ) (hs : List ℕ) (ps : List Part) → Keeps k s (part b (h ∷ hs) ∷ ps) n kk → (s.over ≡ false → h ≡ 2 * s.value)
+  on-number : (b h : ℕ) (hs : List ℕ) (ps : List Part) → Keeps k s (part b (h ∷ hs) ∷ ps) n kk → (s.large ≡ None → h ≡ 2 * s.value)
       → Next k s (part b (h ∷ hs) ∷ ps) at n kk (act_of Number s.value c)
   on-number b h hs ps x w =
       choose (Next k s (part b (h ∷ hs) ∷ ps) at n kk) (not (eqb s.value 0) && is_digit c)
       (λ e. grew k s at n kk b h hs ps x w (c - 48))
       (λ e. choose (Next k s (part b (h ∷ hs) ∷ ps) at n kk) (eqb c 46) (λ f. pointed k s at n kk b h hs ps x w) (λ f. on-space (part b (h ∷ hs) ∷ ps) x))
 
-  on_point : (b h : ℕ) (hs : List ℕ) (ps : List Part) → Keeps k s (part b (h ∷ hs) ∷ ps) n kk → (s.over ≡ false → h ≡ 2 * s.value)
+  on_point : (b h : ℕ) (hs : List ℕ) (ps : List Part) → Keeps k s (part b (h ∷ hs) ∷ ps) n kk → (s.large ≡ None → h ≡ 2 * s.value)
       → Next k s (part b (h ∷ hs) ∷ ps) at n kk (act_of Point s.value c)
   on_point b h hs ps x w =
       choose (Next k s (part b (h ∷ hs) ∷ ps) at n kk) (eqb c 53) (λ e. halved k s at n kk b h hs ps x w) (λ e. stopped k s at n kk (part b (h ∷ hs) ∷ ps) x)
 
-pub step_keeps : (p : Phase) (l v g : ℕ) (o : Bool) (x : ℕ) (y : Bool) (q : ℕ) (ps : List Part) (t : List ℕ) (k at n : ℕ) (kk : Kept) (c : ℕ) → Held p l v ps t
-    → Keeps k (record { phase = p; left = l; value = v; begun = g; over = o; large = x; other = y; place = q }) ps n kk
-    → Next k (record { phase = p; left = l; value = v; begun = g; over = o; large = x; other = y; place = q }) ps at n kk (act_of p v c)
-step_keeps p l v g o x y q ps t k at n kk c (held begin e) z =
-    on-letter k (record { phase = Begin; left = l; value = v; begun = g; over = o; large = x; other = y; place = q }) at n kk c [] z
-step_keeps p l v g o x y q ps t k at n kk c (held (after_segment {p = r} {ps = rs} w) e) z =
-    on-letter k (record { phase = Letter; left = l; value = v; begun = g; over = o; large = x; other = y; place = q }) at n kk c (r ∷ rs) z
-step_keeps p l v g o x y q ps t k at n kk c (held (after_letter {b = b} {ps = rs} a) e) z =
-    on-space k (record { phase = Lettered; left = l; value = v; begun = g; over = o; large = x; other = y; place = q }) at n kk c (part b [] ∷ rs) z
-step_keeps p l v g o x y q ps t k at n kk c (held (after_space {b = b} {hs = hs} {ps = rs} a m) e) z =
-    on-first k (record { phase = Digit; left = l; value = v; begun = g; over = o; large = x; other = y; place = q }) at n kk c b hs rs z
-step_keeps p l v g o x y q ps t k at n kk c (held (in_number {b = b} {h = h} {hs = hs} {ps = rs} m w i a) e) z =
-    on-number k (record { phase = Number; left = l; value = v; begun = g; over = o; large = x; other = y; place = q }) at n kk c b h hs rs z z.doubled
-step_keeps p l v g o x y q ps t k at n kk c (held (after_point {b = b} {h = h} {hs = hs} {ps = rs} m w a) e) z =
-    on_point k (record { phase = Point; left = l; value = v; begun = g; over = o; large = x; other = y; place = q }) at n kk c b h hs rs z z.doubled
-step_keeps p l v g o x y q ps t k at n kk c (held (after_half {b = b} {h = h} {hs = hs} {ps = rs} a) e) z =
-    on-space k (record { phase = Halved; left = l; value = v; begun = g; over = o; large = x; other = y; place = q }) at n kk c (part b (h ∷ hs) ∷ rs) z
-step_keeps p l v g o x y q ps t k at n kk c halted z =
-    still k (record { phase = Stopped; left = l; value = v; begun = g; over = o; large = x; other = y; place = q }) at n kk Stopped ps z
-    (record { phase = Stopped; left = l; value = v; begun = g; over = o; large = x; other = y; place = q }) refl (λ e. tt)
+pub step_keeps : (p : Phase) (l v g : ℕ) (x : Option ℕ) (y : Bool) (ps : List Part) (t : List ℕ) (k at n : ℕ) (kk : Kept) (c : ℕ) → Held p l v ps t
+    → Keeps k (stand_by p l v g x y) ps n kk
+    → Next k (stand_by p l v g x y) ps at n kk (act_of p v c)
+step_keeps p l v g x y ps t k at n kk c (held begin e) z =
+    on-letter k (stand_by Begin l v g x y) at n kk c [] z
+step_keeps p l v g x y ps t k at n kk c (held (after_segment {p = r} {ps = rs} w) e) z =
+    on-letter k (stand_by Letter l v g x y) at n kk c (r ∷ rs) z
+step_keeps p l v g x y ps t k at n kk c (held (after_letter {b = b} {ps = rs} a) e) z =
+    on-space k (stand_by Lettered l v g x y) at n kk c (part b [] ∷ rs) z
+step_keeps p l v g x y ps t k at n kk c (held (after_space {b = b} {hs = hs} {ps = rs} a m) e) z =
+    on-first k (stand_by Digit l v g x y) at n kk c b hs rs z
+step_keeps p l v g x y ps t k at n kk c (held (in_number {b = b} {h = h} {hs = hs} {ps = rs} m w i a) e) z =
+    on-number k (stand_by Number l v g x y) at n kk c b h hs rs z z.doubled
+step_keeps p l v g x y ps t k at n kk c (held (after_point {b = b} {h = h} {hs = hs} {ps = rs} m w a) e) z =
+    on_point k (stand_by Point l v g x y) at n kk c b h hs rs z z.doubled
+step_keeps p l v g x y ps t k at n kk c (held (after_half {b = b} {h = h} {hs = hs} {ps = rs} a) e) z =
+    on-space k (stand_by Halved l v g x y) at n kk c (part b (h ∷ hs) ∷ rs) z
+step_keeps p l v g x y ps t k at n kk c (halted {q = q}) z =
+    still k (stand_by (Stopped q) l v g x y) at n kk (Stopped q) ps z
+    (stand_by (Stopped q) l v g x y) refl (λ e. tt)

@@ -7,10 +7,10 @@ use native.Mathlib.Numerals.{add-one}
 use mathlib.Core.Path.{◌≡◌, refl, sym, ap, ◌∙◌}
 use mathlib.Core.Bool.{Bool, true, false, cond, ◌&&◌}
 use mathlib.Core.List.{List, [], ◌∷◌, ◌++◌, append_assoc, append-nil}
-use borrow.Author.Tests.{eqb-true, eq-eqb, ne_eqb, leb-true, lt-ltb, le-ltb}
+use borrow.Author.Tests.{eqb-true, leb-true, lt-ltb, le-ltb}
 use lib.Dec.{eqb, leb, ltb}
-use lib.ListN.{length, get_or, take, drop, length-append, length-drop}
-use lib.Seq.{length-take-le, get_or-take, get_or-drop, take-suc, take-length, take-add, take-append_seam, drop-append_seam, length-sets}
+use lib.ListN.{length, get_or, take, drop, length-append}
+use lib.Seq.{take-length, take-add, take-append_seam, drop-append_seam, length-sets}
 use Rattle.laws.specs.Bytes.{ascii, all_of, same}
 use Rattle.laws.specs.Lists.{tabulate}
 use Rattle.laws.proofs.Lists.{one_more, same_true, same_self, same_not, right-at, take_sets}
@@ -19,7 +19,7 @@ use Rattle.chart.specs.Text.{Texted, empty, plain, characters_in, character_byte
 use Rattle.chart.proofs.Gives.{text-no-sign, counted-plain}
 use Rattle.grid.specs.RenderNode.{line_length}
 use Rattle.grid.proofs.LabelPlaces.{fixed_line}
-use Rattle.path.specs.declared.label.Span.{Span}
+use Rattle.std.specs.declared.ops.Range.{Range}
 use Rattle.path.specs.Number.{digits}
 use Rattle.path.specs.Writer.{put}
 use Rattle.path.specs.Label.{debug_text, stand_in, stand_ins_from, stand_ins_to, stand_ins, stand_in_span}
@@ -28,12 +28,6 @@ use Rattle.path.proofs.Readings.{both}
 use Rattle.path.proofs.Puts.{put-append}
 
 -- ---- the end of a text
-pub sign-bytes : (b : ℕ) → b ≡ byte_c2 → 2 ≡ character_bytes b
-sign-bytes b e = rw (eq-eqb b byte_c2 e)
-
-pub other-bytes : (b : ℕ) → (b ≡ byte_c2 → ⊥) → 1 ≡ character_bytes b
-other-bytes b n = rw (ne_eqb b byte_c2 n)
-
 pub ending-next : (left : ℕ) (s : List ℕ) (at : ℕ) → 0 < left → ending left s at ≡ ending (left - 1) s (at + character_bytes (get_or s at 0))
 unfolding ending
 ending-next left s at h = one_more (λ (k : ℕ). ending k s at) left h
@@ -160,16 +154,6 @@ module _ (j : ℕ) (h : j < 287) where
     pub byte_low : i - places_of (shown_in j) - 1 ≤ 8
     byte_low = bytes.1
 
-pub stand_in_short : (j : ℕ) → j < 287 → length (stand_in j) ≤ 13
-stand_in_short j h = rw (stand_in_wide j h) (go (ltb j 10) (ltb j 32) (ltb j 41) (ltb j 131))
-  where
-    go : (a b c d : Bool) → cond a 2 (cond b 3 (cond c 11 (cond d 12 13))) ≤ 13
-    go true b c d = omega arith
-    go false true c d = omega arith
-    go false false true d = omega arith
-    go false false false true = omega arith
-    go false false false false = omega arith
-
 pub stand_in_spot : (j : ℕ) → j ≤ 287 → length (stand_ins_to j) ≡ spot j
 unfolding stand_ins_from
 stand_in_spot zero h = refl
@@ -184,9 +168,9 @@ pub stand-ins-long : length stand_ins ≡ 3293
 unfolding stand_ins
 stand-ins-long = stand_in_spot 287 (omega arith)
 
--- its span, where that is a and n bytes
-pub span-is : (j a n : ℕ) → j < 287 → spot j ≡ a → wide j ≡ n → stand_in_span j ≡ record { at = a; end = a + n }
-span-is j a n h e f = rw (stand_in_spot j (omega arith), stand_in_wide j h, e, f)
+-- its span, where that is n bytes from a to e
+pub span-is : (j a n e : ℕ) → j < 287 → spot j ≡ a → wide j ≡ n → a + n ≡ e → record { start = a; end = e } ≡ stand_in_span j
+span-is j a n e h i k l = rw (stand_in_spot j (omega arith), stand_in_wide j h, i, k, l)
 
 module _ (j : ℕ) (h : j < 287) where
   abbrev rest : List ℕ
@@ -205,49 +189,34 @@ module _ (j : ℕ) (h : j < 287) where
   stand_in_within = omega (arith, stand-ins-long, ap (λ (l : List ℕ). length l) table_is, length-append (stand_ins_to j) (stand_in j ++ rest), length-append (stand_in j) rest)
 
 -- a span that is text j's: where it begins, how long it is, and that it lies within the table
-module _ (j : ℕ) (s : Span) (e : s ≡ stand_in_span j) where
-  pub span-at : s.at ≡ length (stand_ins_to j)
-  span-at = ap (λ (z : Span). z.at) e
+module _ (j : ℕ) (s : Range ℕ) (e : s ≡ stand_in_span j) where
+  pub span-at : s.start ≡ length (stand_ins_to j)
+  span-at = ap (λ (z : Range ℕ). z.start) e
 
   span-end : s.end ≡ length (stand_ins_to j) + length (stand_in j)
-  span-end = ap (λ (z : Span). z.end) e
+  span-end = ap (λ (z : Range ℕ). z.end) e
 
-  pub span-rises : s.at ≤ s.end
+  pub span-rises : s.start ≤ s.end
   span-rises = omega (arith, span-at, span-end)
 
-  pub span-long : s.end - s.at ≡ length (stand_in j)
+  pub span-long : s.end - s.start ≡ length (stand_in j)
   span-long = omega (arith, span-at, span-end)
 
   pub span-within : j < 287 → s.end ≤ 3293
   span-within h = omega (arith, span-end, stand_in_within j h)
 
 -- ---- compared byte by byte
-pub take_more : (xs ys : List ℕ) (i : ℕ) → i < length xs → i < length ys → take i xs ≡ take i ys → get_or xs i 0 ≡ get_or ys i 0 → take (i + 1) xs ≡ take (i + 1) ys
-take_more xs ys i h k e f = rw (add-one i, take-suc xs i 0 h, take-suc ys i 0 k, e, f)
-
-pub whole_same : (xs ys : List ℕ) (i : ℕ) → length xs ≡ i → length ys ≡ i → take i xs ≡ take i ys → true ≡ same xs ys
+whole_same : (xs ys : List ℕ) (i : ℕ) → length xs ≡ i → length ys ≡ i → take i xs ≡ take i ys → true ≡ same xs ys
 whole_same xs ys i h k e =
     let z : xs ≡ ys = sym (take-length xs) ∙ ap (λ (n : ℕ). take n xs) h ∙ e ∙ ap (λ (n : ℕ). take n ys) (sym k) ∙ take-length ys in
     sym (ap (same xs) (sym z) ∙ same_self xs)
 
-module _ (t : List ℕ) (at len j : ℕ) (is : len ≡ length (stand_in j)) (fits : at + len ≤ length t) where
-  abbrev part : List ℕ
-  part = take len (drop at t)
+module _ (part : List ℕ) (j : ℕ) where
+  pub text_not : (i : ℕ) → (get_or part i 0 ≡ get_or (stand_in j) i 0 → ⊥) → false ≡ same part (stand_in j)
+  text_not i n = sym (same_not part (stand_in j) (λ e. n (ap (λ (z : List ℕ). get_or z i 0) e)))
 
-  part-long : length part ≡ len
-  part-long = length-take-le len (drop at t) (omega (arith, length-drop at t))
-
-  part_at : (i : ℕ) → i < len → get_or part i 0 ≡ get_or t (at + i) 0
-  part_at i h = get_or-take len (drop at t) i 0 h ∙ get_or-drop at t i 0
-
-  pub text-next : (i : ℕ) → i < len → take i part ≡ take i (stand_in j) → get_or t (at + i) 0 ≡ get_or (stand_in j) i 0 → take (i + 1) part ≡ take (i + 1) (stand_in j)
-  text-next i h e f = take_more part (stand_in j) i (omega (arith, part-long)) (omega arith) e (part_at i h ∙ f)
-
-  pub text_not : (i : ℕ) → i < len → (get_or t (at + i) 0 ≡ get_or (stand_in j) i 0 → ⊥) → false ≡ same part (stand_in j)
-  text_not i h n = sym (same_not part (stand_in j) (λ e. n (sym (part_at i h) ∙ ap (λ (z : List ℕ). get_or z i 0) e)))
-
-  pub text_same : take len part ≡ take len (stand_in j) → true ≡ same part (stand_in j)
-  text_same e = whole_same part (stand_in j) len part-long (sym is) e
+  pub text_same : length part ≡ length (stand_in j) → take (length part) part ≡ take (length part) (stand_in j) → true ≡ same part (stand_in j)
+  text_same long e = whole_same part (stand_in j) (length part) refl (sym long) e
 
 -- ---- compared text by text
 module _ (t : List ℕ) (long : length t ≡ 3293) where

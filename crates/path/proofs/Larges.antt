@@ -1,7 +1,7 @@
 -- 18: a profile text is refused 18 exactly if it has a number above the limit, and the place is that of its first digit. Assumes nothing.
 use mathlib.Core.Path.{◌≡◌, refl, sym, ap, ◌∙◌, subst}
 use mathlib.Core.Logic.{◌⊎◌, inl, inr}
-use mathlib.Core.Bool.{Bool, true, false, cond, not, ◌||◌, true≢false}
+use mathlib.Core.Bool.{Bool, true, false, not}
 use mathlib.Core.List.{List, [], ◌∷◌, ◌++◌, append_assoc}
 use Prim.Native.Nat.{ℕ, zero, suc, ◌+◌, ◌-◌, ◌*◌, ◌/◌, ◌%◌, ◌≤◌, ◌<◌}
 use native.Mathlib.Nat.{div-lt_self}
@@ -9,50 +9,38 @@ use native.Mathlib.Omega.{arith}
 use borrow.Author.Tests.{eqb-true, eqb-false, leb-true, leb-false, lt-ltb, le-leb, ne_eqb}
 use lib.Dec.{eqb, leb, ltb}
 use lib.ListN.{length, length-append}
-use Rattle.path.specs.declared.reader.Phase.{Phase}
-use Rattle.path.specs.declared.reader.Phase.TheVariants.{Lettered, Digit, Number, Halved}
+use Rattle.std.specs.Prelude.{Some, None}
+use Rattle.refusals.specs.declared.TextRefusal.TheVariants.{LargeNumber}
+use Rattle.path.specs.declared.reader.Phase.TheVariants.{Lettered, Digit, Number}
 use Rattle.path.specs.declared.reader.Act.{Act}
 use Rattle.path.specs.declared.reader.Act.TheVariants.{Letter as letter, Space as space, First as first, More as more, Point as point, Half as half, Stop as stop, Stay as stay}
 use Rattle.path.specs.declared.reader.Stand.{Stand}
-use Rattle.path.specs.declared.reader.Verdict.TheVariants.{Fine, Refused}
 use Rattle.path.specs.declared.drawn.Drawn.{Drawn}
 use Rattle.path.specs.Number.{limit, limit_halves, digits, number_text}
 use Rattle.path.specs.Text as text
 use Rattle.path.specs.Text.{letter_of, numbers_of, numbers_text, segment_text, rest_text, text_of, Small, Smalls}
 use Rattle.path.specs.Profile.{Large, lead_text, text_before, place_of}
-use Rattle.path.specs.Reader.{act, grown, marked, moved, Part, Reading, step, run_from, unread, run, drawn_all, ended, is_stopped, given, answer_of, Answer, refused, read}
+use Rattle.path.specs.Reader.{act, grown, first_large, moved, Part, Reading, step, run_from, unread, run, drawn_all, ended, refused, read}
 use Rattle.path.proofs.Numbers.{digits-tens, text-whole, text-half}
 use Rattle.path.proofs.Words.{numbers-append}
 use Rattle.path.proofs.Backs.{rest-append}
-use Rattle.path.proofs.Readings.{part, read_held, ended-text}
+use Rattle.path.proofs.Readings.{part, read_held, ended-text, refused-told}
 use Rattle.path.proofs.Writings.{run-append, mk, Word, a-digit, digits-read, space-read, number_read, rest_read, letter_wants, part_for, parts_onto}
-use Rattle.path.proofs.Fronts.{text-ended, ended-going}
+use Rattle.path.proofs.Fronts.{text-ended}
 
 -- ---- once a number was too large, its place stays
-or_true : (a b : Bool) → b ≡ true → (a || b) ≡ true
-or_true true b e = refl
-or_true false b e = e
-
 -- a number was too large, and the first such began at p
-record Over (s : Stand) (p : ℕ) : Type 0 where
-  over : s.over ≡ true
-  large : s.large ≡ p
-
-mark-over : (too : Bool) (s : Stand) (p : ℕ) → Over s p → Over (marked too s) p
-mark-over too s p o = record { over = or_true too s.over o.over; large = ap (λ (b : Bool). cond b s.large (cond too s.begun s.large)) o.over ∙ o.large }
+abbrev Over : Stand → ℕ → Type 0
+Over s p = s.large ≡ Some p
 
 moved-over : (a : Act) (at : ℕ) (s : Stand) (p : ℕ) → Over s p → Over (moved a at s) p
-moved-over (letter b) at s p o = record { over = o.over; large = o.large }
-moved-over space at s p o = record { over = o.over; large = o.large }
-moved-over (first d) at s p o = record { over = o.over; large = o.large }
-moved-over (more d) at s p o =
-    mark-over (ltb limit (grown s.value d)) (record { phase = Number; left = s.left; value = grown s.value d; begun = s.begun; over = s.over; large = s.large; other = s.other; place = s.place }) p
-    (record { over = o.over; large = o.large })
-moved-over point at s p o = record { over = o.over; large = o.large }
-moved-over half at s p o =
-    mark-over (leb limit s.value) (record { phase = Halved; left = s.left; value = s.value; begun = s.begun; over = s.over; large = s.large; other = s.other; place = s.place }) p
-    (record { over = o.over; large = o.large })
-moved-over stop at s p o = record { over = o.over; large = o.large }
+moved-over (letter b) at s p o = o
+moved-over space at s p o = o
+moved-over (first d) at s p o = o
+moved-over (more d) at s p o = ap (first_large (ltb limit (grown s.value d)) s.begun) o
+moved-over point at s p o = o
+moved-over half at s p o = ap (first_large (leb limit s.value) s.begun) o
+moved-over stop at s p o = o
 moved-over stay at s p o = o
 
 run-over : (bs : List ℕ) (at : ℕ) (r : Reading) (p : ℕ) → Over r.stand p → Over (run_from bs at r).stand p
@@ -60,17 +48,17 @@ run-over [] at r p o = o
 run-over (b ∷ bs) at r p o = run-over bs (suc at) (step at r b) p (moved-over (act r.stand b) at r.stand p o)
 
 -- ---- a number above the limit
-module _ (at l v g x : ℕ) (y : Bool) (q b : ℕ) (hs : List ℕ) (ps : List Part) where
+module _ (at l v g : ℕ) (y : Bool) (b : ℕ) (hs : List ℕ) (ps : List Part) where
   -- the reader before its first digit
   abbrev start : Reading
-  start = mk Digit (suc l) v g x y q (part b hs ∷ ps)
+  start = mk Digit (suc l) v g y (part b hs ∷ ps)
 
   -- one digit more makes it too large
-  grows-over : (n d k : ℕ) → 0 < n → d < 10 → n ≤ limit → limit < 10 * n + d → Over (step k (mk Number l n at x y q (part b (2 * n ∷ hs) ∷ ps)) (48 + d)).stand at
+  grows-over : (n d k : ℕ) → 0 < n → d < 10 → n ≤ limit → limit < 10 * n + d → Over (step k (mk Number l n at y (part b (2 * n ∷ hs) ∷ ps)) (48 + d)).stand at
   grows-over n d k z s h o =
       let m : 48 + d - 48 ≡ d = omega arith in
       let w : (n ≡ 0 → ⊥) = omega arith in
-      rw (ne_eqb n 0 w, a-digit d s, m, le-leb n limit h, lt-ltb limit (10 * n + d) o) (record { over = refl; large = refl })
+      rw (ne_eqb n 0 w, a-digit d s, m, le-leb n limit h, lt-ltb limit (10 * n + d) o) refl
 
   digits-over : (f n : ℕ) → n < f → limit < n → Over (run_from (digits n) at start).stand at
   digits-over zero n h k = absurd (omega arith)
@@ -89,15 +77,15 @@ module _ (at l v g x : ℕ) (y : Bool) (q b : ℕ) (hs : List ℕ) (ps : List Pa
       go true e i =
           let s : n / 10 ≤ limit = leb-true (n / 10) limit e in
           let c : limit < 10 * (n / 10) + n % 10 = omega arith in
-          rw (split, digits-read (suc (n / 10)) (n / 10) at l v g x y q b hs ps (omega arith) s)
+          rw (split, digits-read (suc (n / 10)) (n / 10) at l v g y b hs ps (omega arith) s)
           (grows-over (n / 10) (n % 10) (at + length (digits (n / 10))) (omega arith) (omega arith) s c)
       go false e i =
           let s : limit < n / 10 = leb-false (n / 10) limit e in
           rw split (run-over ((48 + n % 10) ∷ []) (at + length (digits (n / 10))) (run_from (digits (n / 10)) at start) at (i s less))
 
   -- `.5` at the limit makes it too large
-  half_over : (k : ℕ) → Over (run_from (46 ∷ 53 ∷ []) k (mk Number l limit at x y q (part b (2 * limit ∷ hs) ∷ ps))).stand at
-  half_over k = record { over = refl; large = refl }
+  half_over : (k : ℕ) → Over (run_from (46 ∷ 53 ∷ []) k (mk Number l limit at y (part b (2 * limit ∷ hs) ∷ ps))).stand at
+  half_over k = refl
 
   number-over : (h : ℕ) → limit_halves < h → Over (run_from (number_text h) at start).stand at
   number-over h k = go (h % 2) refl (omega arith)
@@ -115,7 +103,7 @@ module _ (at l v g x : ℕ) (y : Bool) (q b : ℕ) (hs : List ℕ) (ps : List Pa
           at_point : (t : Bool) → eqb (h / 2) limit ≡ t → Over (run_from (46 ∷ 53 ∷ []) (at + length (digits (h / 2))) (run_from (digits (h / 2)) at start)).stand at
           at_point true z =
               let w : h / 2 ≡ limit = eqb-true (h / 2) limit z in
-              rw (w, digits-read (suc limit) limit at l v g x y q b hs ps (omega arith) (omega arith)) (half_over (at + length (digits limit)))
+              rw (w, digits-read (suc limit) limit at l v g y b hs ps (omega arith) (omega arith)) (half_over (at + length (digits limit)))
           at_point false z =
               let w : (h / 2 ≡ limit → ⊥) = eqb-false (h / 2) limit z in
               run-over (46 ∷ 53 ∷ []) (at + length (digits (h / 2))) (run_from (digits (h / 2)) at start) at (digits-over (suc (h / 2)) (h / 2) (omega arith) (omega arith))
@@ -123,27 +111,23 @@ module _ (at l v g x : ℕ) (y : Bool) (q b : ℕ) (hs : List ℕ) (ps : List Pa
 
 -- ---- the reader at the end of a word, with l numbers to come, whatever it has read
 record Somewhere (r : Reading) (l : ℕ) : Type 0 where
-  x : ℕ
   y : Bool
-  q : ℕ
   b : ℕ
   hs : List ℕ
   ps : List Part
-  word : Word r l x y q (part b hs ∷ ps)
+  word : Word r l y (part b hs ∷ ps)
 
-not_over : (r : Reading) (l : ℕ) → Somewhere r l → r.stand.over ≡ false
-not_over r l w = ap (λ (z : Reading). z.stand.over) w.word.same
+not_over : (r : Reading) (l : ℕ) → Somewhere r l → r.stand.large ≡ None
+not_over r l w = ap (λ (z : Reading). z.stand.large) w.word.same
 
 number_passed : (k at l : ℕ) (r : Reading) → k ≤ limit_halves → Somewhere r (suc l) → Somewhere (run_from (32 ∷ number_text k) at r) l
 number_passed k at l r h w =
     record {
-      x = w.x;
       y = w.y;
-      q = w.q;
       b = w.b;
       hs = k ∷ w.hs;
       ps = w.ps;
-      word = number_read k at l w.x w.y w.q w.b w.hs w.ps r h w.word;
+      word = number_read k at l w.y w.b w.hs w.ps r h w.word;
     }
 
 -- one more for each of the list
@@ -163,20 +147,18 @@ passed-read (k ∷ ks) (text.more s ss) at l r w =
 
 large-read : (h at l : ℕ) (r : Reading) → limit_halves < h → Somewhere r (suc l) → Over (run_from (32 ∷ number_text h) at r).stand (suc at)
 large-read h at l r k w =
-    let e : step at r 32 ≡ mk Digit (suc l) w.word.value w.word.begun w.x w.y w.q (part w.b w.hs ∷ w.ps) =
+    let e : step at r 32 ≡ mk Digit (suc l) w.word.value w.word.begun w.y (part w.b w.hs ∷ w.ps) =
     ap (λ (z : Reading). step at z 32) w.word.same
-    ∙ space-read w.word.phase at (suc l) w.word.value w.word.begun w.x w.y w.q (part w.b w.hs ∷ w.ps) w.word.end
+    ∙ space-read w.word.phase at (suc l) w.word.value w.word.begun w.y (part w.b w.hs ∷ w.ps) w.word.end
     ∙ rw (ne_eqb (suc l) 0 (omega arith)) in
     subst (λ (z : Reading). Over (run_from (number_text h) (suc at) z).stand (suc at)) (sym e)
-    (number-over (suc at) l w.word.value w.word.begun w.x w.y w.q w.b w.hs w.ps h k)
+    (number-over (suc at) l w.word.value w.word.begun w.y w.b w.hs w.ps h k)
 
 -- ---- segments with no number above the limit, and the next letter
 first-letter : (d : Drawn) → Somewhere (step 0 unread (letter_of d)) (length (numbers_of d))
 first-letter d =
     record {
-      x = 0;
       y = not (eqb (letter_of d) 77);
-      q = 0;
       b = letter_of d;
       hs = [];
       ps = [];
@@ -193,19 +175,17 @@ unfolding text_of
 all_read d ds (text.more s ss) =
     let w : Somewhere (run_from (segment_text d) 0 unread) 0 = first_read d s in
     rw (run-append (segment_text d) (rest_text ds) 0 unread)
-    (later ds (part w.b w.hs) w.ps (run_from (rest_text ds) (0 + length (segment_text d)) (run_from (segment_text d) 0 unread)) w.x w.y w.q (rest_read ds ss (0 + length (segment_text d)) w.x w.y w.q (part w.b w.hs ∷ w.ps) (run_from (segment_text d) 0 unread) w.word))
+    (later ds (part w.b w.hs) w.ps (run_from (rest_text ds) (0 + length (segment_text d)) (run_from (segment_text d) 0 unread)) w.y (rest_read ds ss (0 + length (segment_text d)) w.y (part w.b w.hs ∷ w.ps) (run_from (segment_text d) 0 unread) w.word))
   where
-    later : (es : List Drawn) (p : Part) (ps : List Part) (r : Reading) (x : ℕ) (y : Bool) (q : ℕ) → Word r 0 x y q (parts_onto es (p ∷ ps)) → Somewhere r 0
-    later [] p ps r x y q w = record { x = x; y = y; q = q; b = p.letter; hs = p.numbers; ps = ps; word = w }
-    later (e ∷ es) p ps r x y q w = later es (part_for e) (p ∷ ps) r x y q w
+    later : (es : List Drawn) (p : Part) (ps : List Part) (r : Reading) (y : Bool) → Word r 0 y (parts_onto es (p ∷ ps)) → Somewhere r 0
+    later [] p ps r y w = record { y = y; b = p.letter; hs = p.numbers; ps = ps; word = w }
+    later (e ∷ es) p ps r y w = later es (part_for e) (p ∷ ps) r y w
 
 -- a space and a letter
 next-letter : (d : Drawn) (at : ℕ) (r : Reading) → Somewhere r 0 → Somewhere (run_from (32 ∷ letter_of d ∷ []) at r) (length (numbers_of d))
 next-letter d at r w =
     record {
-      x = w.x;
       y = w.y;
-      q = w.q;
       b = letter_of d;
       hs = [];
       ps = part w.b w.hs ∷ w.ps;
@@ -217,7 +197,7 @@ next-letter d at r w =
             end = refl;
             same =
                 ap (λ (z : Reading). step (suc at) (step at z 32) (letter_of d)) w.word.same
-                ∙ ap (λ (z : Reading). step (suc at) z (letter_of d)) (space-read w.word.phase at 0 w.word.value w.word.begun w.x w.y w.q (part w.b w.hs ∷ w.ps) w.word.end)
+                ∙ ap (λ (z : Reading). step (suc at) z (letter_of d)) (space-read w.word.phase at 0 w.word.value w.word.begun w.y (part w.b w.hs ∷ w.ps) w.word.end)
                 ∙ rw ((letter_wants d).0, (letter_wants d).1);
           };
     }
@@ -282,22 +262,12 @@ module _ (ds : List Drawn) (l : Large ds) where
       (large-read l.large spot (length l.rest) up_to l.over here_somewhere)))
 
 -- ---- the answer
-pub going : (p : Phase) (l : ℕ) → ended p l ≡ true → is_stopped p ≡ false
-going p l e = go (is_stopped p) refl
-  where
-    go : (t : Bool) → is_stopped p ≡ t → is_stopped p ≡ false
-    go true z = absurd (ended-going p l e z)
-    go false z = z
-
 -- a profile text with a number above the limit is refused 18, at the place of the first such
-pub large_18 : (ds : List Drawn) (l : Large ds) → read (text_of ds) ≡ refused 18 (place_of l)
+pub large_18 : (ds : List Drawn) (l : Large ds) → read (text_of ds) ≡ refused (LargeNumber (place_of l))
 unfolding read
-large_18 ds l =
-    let e : ended (run (text_of ds)).stand.phase (run (text_of ds)).stand.left ≡ true = text-ended ds in
-    let o : Over (run (text_of ds)).stand (place_of l) = large-over ds l in
-    rw (going (run (text_of ds)).stand.phase (run (text_of ds)).stand.left e, e, o.over, o.large)
+large_18 ds l = rw (text-ended ds, large-over ds l)
 
-pub smalls_not : (ds : List Drawn) → Smalls ds → (run (text_of ds)).stand.over ≡ false
+pub smalls_not : (ds : List Drawn) → Smalls ds → (run (text_of ds)).stand.large ≡ None
 unfolding run text_of
 smalls_not [] s = refl
 smalls_not (d ∷ ds) s = not_over (run_from (text_of (d ∷ ds)) 0 unread) 0 (all_read d ds s)
@@ -357,44 +327,21 @@ either (d ∷ ds) = go (numbers-either (numbers_of d)) (either ds)
           over = s.over;
         })
 
--- what an answer of 18, and of 19, says of the stand
-module _ (n : ℕ) (s : Stand) (xs : List Drawn) (p : ℕ) where
-  abbrev Ask : Bool → Bool → Bool → Bool → Answer
-  Ask u v w x = given (cond u (Refused 17 s.place) (cond v (cond w (Refused 18 s.large) (cond x (Refused 19 0) Fine)) (Refused 17 n))) xs
-
-  pub answered_18 : answer_of n s xs ≡ refused 18 p → (ended s.phase s.left ≡ true) × (s.over ≡ true)
-  answered_18 e = go (is_stopped s.phase) (ended s.phase s.left) s.over s.other e
-    where
-      go : (u v w x : Bool) → Ask u v w x ≡ refused 18 p → (v ≡ true) × (w ≡ true)
-      go true v w x i = let z : ◌≡◌ {A = ℕ} 17 18 = cc in absurd (omega arith)
-      go false true true x i = (refl, refl)
-      go false true false true i = let z : ◌≡◌ {A = ℕ} 19 18 = cc in absurd (omega arith)
-      go false true false false i = let z : ◌≡◌ {A = ℕ} 0 1 = cc in absurd (omega arith)
-      go false false w x i = let z : ◌≡◌ {A = ℕ} 17 18 = cc in absurd (omega arith)
-
-  pub answered_19 : answer_of n s xs ≡ refused 19 p → (ended s.phase s.left ≡ true) × (s.over ≡ false) × (s.other ≡ true) × (p ≡ 0)
-  answered_19 e = go (is_stopped s.phase) (ended s.phase s.left) s.over s.other e
-    where
-      go : (u v w x : Bool) → Ask u v w x ≡ refused 19 p → (v ≡ true) × (w ≡ false) × (x ≡ true) × (p ≡ 0)
-      go true v w x i = let z : ◌≡◌ {A = ℕ} 17 19 = cc in absurd (omega arith)
-      go false true true x i = let z : ◌≡◌ {A = ℕ} 18 19 = cc in absurd (omega arith)
-      go false true false true i = (refl, refl, refl, cc)
-      go false true false false i = let z : ◌≡◌ {A = ℕ} 0 1 = cc in absurd (omega arith)
-      go false false w x i = let z : ◌≡◌ {A = ℕ} 17 19 = cc in absurd (omega arith)
-
 -- a text refused 18 is a profile text with a number above the limit, and the place is that of its first digit
-pub refused_18 : (s : List ℕ) (p : ℕ) → read s ≡ refused 18 p → (ds : List Drawn) × (text_of ds ≡ s) × (l : Large ds) × (p ≡ place_of l)
+pub refused_18 : (s : List ℕ) (p : ℕ) → read s ≡ refused (LargeNumber p) → (ds : List Drawn) × (text_of ds ≡ s) × (l : Large ds) × (p ≡ place_of l)
 refused_18 s p e = go (either (drawn_all (run s).parts))
   where
-    told : (ended (run s).stand.phase (run s).stand.left ≡ true) × ((run s).stand.over ≡ true)
-    told = answered_18 (length s) (run s).stand (drawn_all (run s).parts) p (unfold read in e)
+    told : (ended (run s).stand.phase (run s).stand.left ≡ true) × ((run s).stand.large ≡ Some p)
+    told = refused-told (length s) (run s).stand (drawn_all (run s).parts) (LargeNumber p) (unfold read in e)
 
     same : text_of (drawn_all (run s).parts) ≡ s
     same = ended-text (run s).stand.phase (run s).stand.left (run s).stand.value (run s).parts s (read_held s) told.0
 
-    at : (q : ℕ) → refused 18 p ≡ refused 18 q → p ≡ q
+    at : (q : ℕ) → refused (LargeNumber p) ≡ refused (LargeNumber q) → p ≡ q
     at q z = cc
 
     go : Smalls (drawn_all (run s).parts) ⊎ Large (drawn_all (run s).parts) → (ds : List Drawn) × (text_of ds ≡ s) × (l : Large ds) × (p ≡ place_of l)
-    go (inl r) = absurd (true≢false (sym told.1 ∙ ap (λ (z : List ℕ). (run z).stand.over) (sym same) ∙ smalls_not (drawn_all (run s).parts) r))
+    go (inl r) =
+        let z : Some p ≡ None = sym told.1 ∙ ap (λ (z : List ℕ). (run z).stand.large) (sym same) ∙ smalls_not (drawn_all (run s).parts) r in
+        absurd cc
     go (inr l) = (drawn_all (run s).parts, same, l, at (place_of l) (sym e ∙ ap read (sym same) ∙ large_18 (drawn_all (run s).parts) l))

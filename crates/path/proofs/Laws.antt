@@ -10,9 +10,11 @@ use lib.Dec.{leb, ltb}
 use lib.ListN.{length, take, drop, take-append-drop}
 use lib.Seq.{take-append-le, take-append_seam, drop-append_seam, length-take-le, length-sets}
 use Rattle.laws.specs.Lists.{All}
+use Rattle.std.specs.Prelude.{None, Err}
+use Rattle.refusals.specs.declared.TextRefusal.{TextRefusal}
+use Rattle.refusals.specs.declared.TextRefusal.TheVariants.{NotProfile, LargeNumber, NoMove}
 use Rattle.grid.specs.declared.SheetRecord.{SheetRecord}
 use Rattle.grid.specs.Record.{sound_of}
-use Rattle.path.specs.declared.reader.Verdict.TheVariants.{Fine, Refused}
 use Rattle.path.specs.declared.drawn.Drawn.{Drawn}
 use Rattle.path.specs.declared.drawn.Drawn.TheVariants.{Move, Line, Cubic, Close}
 use Rattle.path.specs.Drawn.{Exactly, ExactAll}
@@ -22,13 +24,14 @@ use Rattle.path.specs.Text.{numbers_of, numbers_text, rest_text, text_of, Small,
 use Rattle.path.specs.Segments.{drawn_of}
 use Rattle.path.specs.Profile.{IsProfile, Continues, Refusal, Large, text_before, place_of}
 use Rattle.path.specs.Writer.{put}
-use Rattle.path.specs.Reader.{Answer, step, unread, run, drawn_all, ended, is_stopped, given, segments, refused, read}
-use Rattle.path.specs.Answers.{sheet_answer, count_of, given_of, written_of, left_of, given_numbers, count_numbers, written_numbers, refusal_of, segment_refusal, text_refusal}
+use Rattle.path.specs.Reader.{Answer, step, unread, run, drawn_all, ended, broken_at, whole_verdict, given, segments, refused, read}
+use Rattle.refusals.specs.Refusals.{text_numbers_in}
+use Rattle.path.specs.Answers.{sheet_answer, count_of, given_of, written_of, left_of, refusal_of, segment_refusal, text_refusal}
 use Rattle.path.specs.Svg.{Command, SvgPath}
 use Rattle.path.specs.Meaning.{MeanAll}
 use Rattle.path.proofs.Exact.{exact}
 use Rattle.path.proofs.Puts.{put-parts}
-use Rattle.path.proofs.Readings.{read_held, ended-text, read-text}
+use Rattle.path.proofs.Readings.{read_held, ended-text, refused-told, read-text}
 use Rattle.path.proofs.Writings.{written_read}
 use Rattle.path.proofs.Derives.{derives}
 use Rattle.path.proofs.Accepts as accepts
@@ -37,7 +40,7 @@ use Rattle.path.proofs.Sheets.{drawn-led, drawn-smalls}
 use Rattle.path.proofs.Fronts.{text-ended}
 use Rattle.path.proofs.Fronts as fronts
 use Rattle.path.proofs.Larges as larges
-use Rattle.path.proofs.Larges.{going, smalls_not, either, answered_19}
+use Rattle.path.proofs.Larges.{smalls_not, either}
 
 -- ---- a sheet
 module _ (s : SheetRecord) where
@@ -87,15 +90,15 @@ module _ (buf : List ℕ) (ds : List Drawn) where
 
 -- a buffer is as long as it was
 pub left-long : (buf : List ℕ) (a : Answer) → length (left_of buf a) ≡ length buf
-left-long buf (refused n p) = refl
+left-long buf (refused r) = refl
 left-long buf (segments ds) = go (leb (0 + length (text_of ds)) (length buf))
   where
     go : (b : Bool) → length (cond b (put buf 0 (text_of ds)) buf) ≡ length buf
     go true = length-sets buf 0 (text_of ds)
     go false = refl
 
-pub buffer_refused : (buf : List ℕ) (n p : ℕ) → left_of buf (refused n p) ≡ buf
-buffer_refused buf n p = refl
+pub buffer_refused : (buf : List ℕ) (r : TextRefusal) → left_of buf (refused r) ≡ buf
+buffer_refused buf r = refl
 
 -- ---- a path text that is read
 module _ (s : List ℕ) (ds : List Drawn) (e : read s ≡ segments ds) where
@@ -117,32 +120,22 @@ accepting s ds e l m = ap read (sym e) ∙ written_read ds l m
 
 -- ---- 17: exactly the texts that are no profile texts
 module _ (s : List ℕ) where
-  answer_17 : (p : ℕ) → read s ≡ refused 17 p → ended (run s).stand.phase (run s).stand.left ≡ false
-  unfolding read
-  answer_17 p e = go (is_stopped (run s).stand.phase) (ended (run s).stand.phase (run s).stand.left) (run s).stand.over (run s).stand.other (λ z. going (run s).stand.phase (run s).stand.left z) e
-    where
-      go : (u v w x : Bool) → (v ≡ true → u ≡ false) → given (cond u (Refused 17 (run s).stand.place) (cond v (cond w (Refused 18 (run s).stand.large) (cond x (Refused 19 0) Fine)) (Refused 17 (length s)))) (drawn_all (run s).parts) ≡ refused 17 p → v ≡ false
-      go u false w x g i = refl
-      go true true w x g i = absurd (true≢false (g refl))
-      go false true true x g i = let z : ◌≡◌ {A = ℕ} 18 17 = cc in absurd (omega arith)
-      go false true false true g i = let z : ◌≡◌ {A = ℕ} 19 17 = cc in absurd (omega arith)
-      go false true false false g i = let z : ◌≡◌ {A = ℕ} 0 1 = cc in absurd (omega arith)
+  pub no_profile : (p : ℕ) → read s ≡ refused (NotProfile p) → IsProfile s → ⊥
+  no_profile p e i =
+      let t = refused-told (length s) (run s).stand (drawn_all (run s).parts) (NotProfile p) (unfold read in e) in
+      true≢false (sym (subst (λ (x : List ℕ). ended (run x).stand.phase (run x).stand.left ≡ true) i.1 (text-ended i.0)) ∙ t.0)
 
-  pub no_profile : (p : ℕ) → read s ≡ refused 17 p → IsProfile s → ⊥
-  no_profile p e i = true≢false (sym (subst (λ (x : List ℕ). ended (run x).stand.phase (run x).stand.left ≡ true) i.1 (text-ended i.0)) ∙ answer_17 p e)
-
-  pub not_profile : (IsProfile s → ⊥) → (p : ℕ) × (read s ≡ refused 17 p)
+  pub not_profile : (IsProfile s → ⊥) → (p : ℕ) × (read s ≡ refused (NotProfile p))
   unfolding read
-  not_profile n = go (is_stopped (run s).stand.phase) (ended (run s).stand.phase (run s).stand.left) refl
+  not_profile n = go (ended (run s).stand.phase (run s).stand.left) refl
     where
-      go : (u v : Bool) → ended (run s).stand.phase (run s).stand.left ≡ v
-          → (p : ℕ) × (given (cond u (Refused 17 (run s).stand.place) (cond v (cond (run s).stand.over (Refused 18 (run s).stand.large) (cond (run s).stand.other (Refused 19 0) Fine)) (Refused 17 (length s)))) (drawn_all (run s).parts) ≡ refused 17 p)
-      go true v z = ((run s).stand.place, refl)
-      go false true z = absurd (n (drawn_all (run s).parts, ended-text (run s).stand.phase (run s).stand.left (run s).stand.value (run s).parts s (read_held s) z))
-      go false false z = (length s, refl)
+      go : (v : Bool) → ended (run s).stand.phase (run s).stand.left ≡ v
+          → (p : ℕ) × (given (cond v (whole_verdict (run s).stand.large (run s).stand.other) (Err (NotProfile (broken_at (length s) (run s).stand.phase)))) (drawn_all (run s).parts) ≡ refused (NotProfile p))
+      go true z = absurd (n (drawn_all (run s).parts, ended-text (run s).stand.phase (run s).stand.left (run s).stand.value (run s).parts s (read_held s) z))
+      go false z = (broken_at (length s) (run s).stand.phase, refl)
 
   -- in document 01's words, `Refusal`: some profile text continues the first p bytes, and none the first p + 1, or the text breaks off at p
-  pub refused_17 : (p : ℕ) → read s ≡ refused 17 p → Refusal s p
+  pub refused_17 : (p : ℕ) → read s ≡ refused (NotProfile p) → Refusal s p
   refused_17 p e = fronts.refused_17 s p e
 
   shorter : (i j : ℕ) → i ≤ j → j ≤ length s → Continues (take j s) → Continues (take i s)
@@ -176,37 +169,37 @@ module _ (s : List ℕ) where
       go (inr x) = x.1 i
 
   -- and the other way
-  pub refusing_17 : (p : ℕ) → Refusal s p → read s ≡ refused 17 p
+  pub refusing_17 : (p : ℕ) → Refusal s p → read s ≡ refused (NotProfile p)
   refusing_17 p a =
-      let n : (q : ℕ) × (read s ≡ refused 17 q) = not_profile (refusal-none p a) in
-      n.1 ∙ ap (refused 17) (same_place n.0 p (refused_17 n.0 n.1) a)
+      let n : (q : ℕ) × (read s ≡ refused (NotProfile q)) = not_profile (refusal-none p a) in
+      n.1 ∙ ap (λ (q : ℕ). refused (NotProfile q)) (same_place n.0 p (refused_17 n.0 n.1) a)
 
 -- ---- 18: exactly the profile texts with a number above the limit; the place is that of the first digit of the first such
-pub refused_18 : (s : List ℕ) (p : ℕ) → read s ≡ refused 18 p → (ds : List Drawn) × (text_of ds ≡ s) × (l : Large ds) × (p ≡ place_of l)
+pub refused_18 : (s : List ℕ) (p : ℕ) → read s ≡ refused (LargeNumber p) → (ds : List Drawn) × (text_of ds ≡ s) × (l : Large ds) × (p ≡ place_of l)
 refused_18 s p e = larges.refused_18 s p e
 
 -- (the place is the length of what stands before that number)
 pub large-stands : (ds : List Drawn) (l : Large ds) → text_of ds ≡ text_before l ++ (number_text l.large ++ (numbers_text l.rest ++ rest_text l.late))
 large-stands ds l = larges.large-stands ds l
 
-pub refusing_18 : (s : List ℕ) (ds : List Drawn) → text_of ds ≡ s → (l : Large ds) → read s ≡ refused 18 (place_of l)
+pub refusing_18 : (s : List ℕ) (ds : List Drawn) → text_of ds ≡ s → (l : Large ds) → read s ≡ refused (LargeNumber (place_of l))
 refusing_18 s ds e l = ap read (sym e) ∙ larges.large_18 ds l
 
--- ---- 19: exactly the other profile texts that do not begin with a move; the place is 0
-pub refused_19 : (s : List ℕ) (p : ℕ) → read s ≡ refused 19 p → (p ≡ 0) × ((ds : List Drawn) × (text_of ds ≡ s) × Smalls ds × (Led ds → ⊥))
-refused_19 s p e = (told.3, go (either (drawn_all (run s).parts)))
+-- ---- 19: exactly the other profile texts that do not begin with a move
+pub refused_19 : (s : List ℕ) → read s ≡ refused NoMove → (ds : List Drawn) × (text_of ds ≡ s) × Smalls ds × (Led ds → ⊥)
+refused_19 s e = go (either (drawn_all (run s).parts))
   where
-    told : (ended (run s).stand.phase (run s).stand.left ≡ true) × ((run s).stand.over ≡ false) × ((run s).stand.other ≡ true) × (p ≡ 0)
-    told = answered_19 (length s) (run s).stand (drawn_all (run s).parts) p (unfold read in e)
+    told : (ended (run s).stand.phase (run s).stand.left ≡ true) × ((run s).stand.large ≡ None) × ((run s).stand.other ≡ true)
+    told = refused-told (length s) (run s).stand (drawn_all (run s).parts) NoMove (unfold read in e)
 
     same : text_of (drawn_all (run s).parts) ≡ s
     same = ended-text (run s).stand.phase (run s).stand.left (run s).stand.value (run s).parts s (read_held s) told.0
 
-    no-large : (q : ℕ) → read s ≡ refused 18 q → ⊥
-    no-large q i = let z : ◌≡◌ {A = ℕ} 18 19 = cc in omega arith
+    no-large : (q : ℕ) → read s ≡ refused (LargeNumber q) → ⊥
+    no-large q i = cc
 
     no-led : (ds : List Drawn) → read s ≡ segments ds → ⊥
-    no-led ds i = let z : ◌≡◌ {A = ℕ} 0 1 = cc in omega arith
+    no-led ds i = cc
 
     go : Smalls (drawn_all (run s).parts) ⊎ Large (drawn_all (run s).parts) → (ds : List Drawn) × (text_of ds ≡ s) × Smalls ds × (Led ds → ⊥)
     go (inl m) = (drawn_all (run s).parts, same, m, λ (l : Led (drawn_all (run s).parts)). no-led (drawn_all (run s).parts) (accepting s (drawn_all (run s).parts) same l m))
@@ -221,35 +214,34 @@ other-first (Line x y ∷ ds) n = run-other (numbers_text (x ∷ y ∷ []) ++ re
 other-first (Cubic a b c d x y ∷ ds) n = run-other (numbers_text (a ∷ b ∷ c ∷ d ∷ x ∷ y ∷ []) ++ rest_text ds) 1 (step 0 unread 67) refl
 other-first (Close ∷ ds) n = run-other (rest_text ds) 1 (step 0 unread 90) refl
 
-other_19 : (ds : List Drawn) → Smalls ds → (Led ds → ⊥) → read (text_of ds) ≡ refused 19 0
+other_19 : (ds : List Drawn) → Smalls ds → (Led ds → ⊥) → read (text_of ds) ≡ refused NoMove
 unfolding read
 other_19 ds m n =
-    let e : ended (run (text_of ds)).stand.phase (run (text_of ds)).stand.left ≡ true = text-ended ds in
-    rw (going (run (text_of ds)).stand.phase (run (text_of ds)).stand.left e, e, smalls_not ds m, other-first ds n)
+    rw (text-ended ds, smalls_not ds m, other-first ds n)
 
-pub refusing_19 : (s : List ℕ) (ds : List Drawn) → text_of ds ≡ s → Smalls ds → (Led ds → ⊥) → read s ≡ refused 19 0
+pub refusing_19 : (s : List ℕ) (ds : List Drawn) → text_of ds ≡ s → Smalls ds → (Led ds → ⊥) → read s ≡ refused NoMove
 refusing_19 s ds e m n = ap read (sym e) ∙ other_19 ds m n
 
 -- ---- document 01's numbers of the answers, in the order that they are asked
-pub count-numbers : (a : Answer) → count_numbers (count_of a) ≡ refusal_of a
+pub count-numbers : (a : Answer) → text_numbers_in (count_of a) ≡ refusal_of a
 count-numbers (segments ds) = refl
-count-numbers (refused n p) = refl
+count-numbers (refused r) = refl
 
-pub segment-numbers : (k : ℕ) (a : Answer) → given_numbers (given_of k a) ≡ segment_refusal k a
+pub segment-numbers : (k : ℕ) (a : Answer) → text_numbers_in (given_of k a) ≡ segment_refusal k a
 segment-numbers k (segments ds) = go (ltb k (length ds)) refl
   where
-    go : (u : Bool) → ltb k (length ds) ≡ u → given_numbers (given_of k (segments ds)) ≡ segment_refusal k (segments ds)
+    go : (u : Bool) → ltb k (length ds) ≡ u → text_numbers_in (given_of k (segments ds)) ≡ segment_refusal k (segments ds)
     go true e = rw e
     go false e = rw e
-segment-numbers k (refused n p) = refl
+segment-numbers k (refused r) = refl
 
-pub text-numbers : (buf : List ℕ) (a : Answer) → written_numbers (written_of buf a) ≡ text_refusal buf a
+pub text-numbers : (buf : List ℕ) (a : Answer) → text_numbers_in (written_of buf a) ≡ text_refusal buf a
 text-numbers buf (segments ds) = go (leb (length (text_of ds)) (length buf)) refl
   where
     z : 0 + length (text_of ds) ≡ length (text_of ds)
     z = omega arith
 
-    go : (u : Bool) → leb (length (text_of ds)) (length buf) ≡ u → written_numbers (written_of buf (segments ds)) ≡ text_refusal buf (segments ds)
+    go : (u : Bool) → leb (length (text_of ds)) (length buf) ≡ u → text_numbers_in (written_of buf (segments ds)) ≡ text_refusal buf (segments ds)
     go true e = rw (z, e)
     go false e = rw (z, e)
-text-numbers buf (refused n p) = refl
+text-numbers buf (refused r) = refl

@@ -5,7 +5,6 @@ pub mod Puts
 pub mod Words
 pub mod Tails
 pub mod Backs
-pub mod Steps
 pub mod Readings
 pub mod Writings
 pub mod Derives

@@ -65,7 +65,7 @@ act-tens Number v b =
     (λ e. choose Tens (eqb b 46) (λ f. tt) (λ f. spaced-tens b))
 act-tens Point v b = choose Tens (eqb b 53) (λ e. tt) (λ e. tt)
 act-tens Halved v b = spaced-tens b
-act-tens Stopped v b = tt
+act-tens (Stopped q) v b = tt
 
 grown-small : (v d : ℕ) → d < 10 → v < 100000000 → grown v d < 100000000
 grown-small v d h l = go (leb v limit) refl

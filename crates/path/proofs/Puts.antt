@@ -7,7 +7,8 @@ use native.Mathlib.Omega.{arith}
 use lib.ListN.{length, get_or, take, drop, set, length-append}
 use lib.Seq.{sets, sets-eq, set_comm, length-sets, take-suc, length-take-le}
 use borrow.Author.Tests.{le-leb, lt-leb}
-use Rattle.path.specs.declared.Written.TheVariants.{Done, Refused}
+use Rattle.std.specs.Prelude.{Ok, Err}
+use Rattle.refusals.specs.declared.TextRefusal.TheVariants.{ShortBuffer}
 use Rattle.path.specs.Number.{digits, number_text}
 use Rattle.path.specs.Writer.{put, IsPut, placed, answered}
 use Rattle.path.proofs.Numbers.{text-even, text_odd, length-even, length_odd}
@@ -68,13 +69,6 @@ then {l} {b} {c} {s} {t} {at} {e} {f} p q =
       after = omega (arith, p.after, q.after, length-append s t);
     }
 
--- a byte and what follows it
-pub byte-then : {l c t : List ℕ} {at f : ℕ} (b : ℕ) → IsPut (set l at b) (at + 1) t c f → IsPut l at (b ∷ t) c f
-byte-then {l} {c} {t} {at} {f} b q = record { bytes = q.bytes ∙ ap (λ (k : ℕ). put (set l at b) k t) (add-one at); after = omega (arith, q.after) }
-
-pub one_byte : (l : List ℕ) (at b : ℕ) → IsPut l at (b ∷ []) (set l at b) (at + 1)
-one_byte l at b = record { bytes = refl; after = refl }
-
 pub put-long : {l c t : List ℕ} {at f : ℕ} → IsPut l at t c f → length c ≡ length l
 put-long {l} {c} {t} {at} {f} p = ap length p.bytes ∙ length-sets l at t
 
@@ -84,8 +78,8 @@ put_as {l} {c} {s} {t} {at} {f} e p = rw e at p
 
 -- ---- the answer of a writer
 module _ (l : List ℕ) (at : ℕ) (t : List ℕ) (n : ℕ) (e : n ≡ length t) where
-  pub refuses : length l < at + n → (Refused 16 n ≡ answered l at t) × (l ≡ placed l at t)
+  pub refuses : length l < at + n → (Err (ShortBuffer n) ≡ answered l at t) × (l ≡ placed l at t)
   refuses h = let k : length l < at + length t = omega arith in (rw (lt-leb (at + length t) (length l) k, e), rw (lt-leb (at + length t) (length l) k))
 
-  pub does : (b : List ℕ) → at + n ≤ length l → b ≡ put l at t → (Done n ≡ answered l at t) × (b ≡ placed l at t)
+  pub does : (b : List ℕ) → at + n ≤ length l → b ≡ put l at t → (Ok n ≡ answered l at t) × (b ≡ placed l at t)
   does b h q = let k : at + length t ≤ length l = omega arith in (rw (le-leb (at + length t) (length l) k, e), rw (le-leb (at + length t) (length l) k, q))

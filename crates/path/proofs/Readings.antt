@@ -7,16 +7,18 @@ use native.Mathlib.Omega.{arith}
 use borrow.Author.Tests.{eqb-true, eqb-false, leb-true, not-true}
 use lib.Dec.{eqb, leb}
 use lib.ListN.{length}
+use Rattle.std.specs.Prelude.{Option, Some, None, Result, Ok, Err}
+use Rattle.refusals.specs.declared.TextRefusal.{TextRefusal}
+use Rattle.refusals.specs.declared.TextRefusal.TheVariants.{TooFar, NotThere, ShortBuffer, NotProfile, LargeNumber, NoMove}
 use Rattle.path.specs.declared.reader.Phase.{Phase}
 use Rattle.path.specs.declared.reader.Phase.TheVariants.{Begin, Letter, Lettered, Digit, Number, Point, Halved, Stopped}
 use Rattle.path.specs.declared.reader.Act.{Act}
 use Rattle.path.specs.declared.reader.Act.TheVariants.{Letter as letter, First as first, Half as half, Stop as stop}
 use Rattle.path.specs.declared.reader.Stand.{Stand}
-use Rattle.path.specs.declared.reader.Verdict.TheVariants.{Fine, Refused}
 use Rattle.path.specs.declared.drawn.Drawn.{Drawn}
 use Rattle.path.specs.Number.{digits, number_text}
 use Rattle.path.specs.Text.{text_of}
-use Rattle.path.specs.Reader.{is_letter, is_digit, arity, act_of, on_space, Part, Reading, next, step, run_from, unread, run, drawn_all, ended, is_stopped, given, answer_of, segments, read}
+use Rattle.path.specs.Reader.{is_letter, is_digit, arity, act_of, on_space, Part, Reading, next, step, run_from, unread, run, drawn_all, ended, broken_at, whole_verdict, verdict_of, given, answer_of, segments, refused, read}
 use Rattle.path.proofs.Numbers.{digits-one, digits_more, text-whole, text-half}
 use Rattle.path.proofs.Backs.{front, back, whole, Wholes, none, more as and, back-text}
 
@@ -46,7 +48,7 @@ tail Digit = 32 ∷ []
 tail Number = []
 tail Point = 46 ∷ []
 tail Halved = []
-tail Stopped = []
+tail (Stopped q) = []
 
 -- the last part is b with the numbers hs, and l numbers are to come
 pub record Last (b : ℕ) (hs : List ℕ) (l : ℕ) (ps : List Part) : Type 0 where
@@ -69,7 +71,7 @@ pub data Good : Phase → ℕ → ℕ → List Part → Type 0 where
 -- the bytes t are taken, or one of them was refused
 pub data Held : Phase → ℕ → ℕ → List Part → List ℕ → Type 0 where
   held : {p : Phase} {l v : ℕ} {ps : List Part} {t : List ℕ} → Good p l v ps → back ps ++ tail p ≡ t → Held p l v ps t
-  halted : {l v : ℕ} {ps : List Part} {t : List ℕ} → Held Stopped l v ps t
+  halted : {q l v : ℕ} {ps : List Part} {t : List ℕ} → Held (Stopped q) l v ps t
 
 abbrev pub Holds : Reading → List ℕ → Type 0
 Holds r t = Held r.stand.phase r.stand.left r.stand.value r.parts t
@@ -141,31 +143,35 @@ module _ (s : Stand) (t : List ℕ) (at c : ℕ) where
       (rw (ap number_text f, text-half, ← e, i, eqb-true c 53 z) (simp (append_assoc, append-nil))))
       (λ (z : eqb c 53 ≡ false). halted)
 
+-- a stand by its fields
+abbrev pub stand_by : Phase → ℕ → ℕ → ℕ → Option ℕ → Bool → Stand
+stand_by p l v g x y = record { phase = p; left = l; value = v; begun = g; large = x; other = y }
+
 -- ---- one byte more
-pub step-held : (p : Phase) (l v g : ℕ) (o : Bool) (x : ℕ) (y : Bool) (q : ℕ) (ps : List Part) (t : List ℕ) (at c : ℕ) → Held p l v ps t
-    → Holds (step at (record { stand = record { phase = p; left = l; value = v; begun = g; over = o; large = x; other = y; place = q }; parts = ps }) c) (t ++ c ∷ [])
-step-held p l v g o x y q ps t at c (held begin e) =
-    lettered (record { phase = Begin; left = l; value = v; begun = g; over = o; large = x; other = y; place = q }) t at c [] none e
-step-held p l v g o x y q ps t at c (held (after_segment {p = r} {ps = rs} w) e) =
-    lettered (record { phase = Letter; left = l; value = v; begun = g; over = o; large = x; other = y; place = q }) t at c (r ∷ rs) w e
-step-held p l v g o x y q ps t at c (held (after_letter {b = b} {ps = rs} a) e) =
-    spaced (record { phase = Lettered; left = l; value = v; begun = g; over = o; large = x; other = y; place = q }) t at c b [] rs a (sym (append-nil _) ∙ e)
-step-held p l v g o x y q ps t at c (held (after_space {b = b} {hs = hs} {ps = rs} a n) e) =
-    begun (record { phase = Digit; left = l; value = v; begun = g; over = o; large = x; other = y; place = q }) t at c b hs rs a n e
-step-held p l v g o x y q ps t at c (held (in_number {b = b} {h = h} {hs = hs} {ps = rs} n w k a) e) =
-    numbered (record { phase = Number; left = l; value = v; begun = g; over = o; large = x; other = y; place = q }) t at c b h n hs rs a w k (sym (append-nil _) ∙ e)
-step-held p l v g o x y q ps t at c (held (after_point {b = b} {h = h} {hs = hs} {ps = rs} n w a) e) =
-    halved (record { phase = Point; left = l; value = v; begun = g; over = o; large = x; other = y; place = q }) t at c b h n hs rs a w e
-step-held p l v g o x y q ps t at c (held (after_half {b = b} {h = h} {hs = hs} {ps = rs} a) e) =
-    spaced (record { phase = Halved; left = l; value = v; begun = g; over = o; large = x; other = y; place = q }) t at c b (h ∷ hs) rs a (sym (append-nil _) ∙ e)
-step-held p l v g o x y q ps t at c halted = halted
+pub step-held : (p : Phase) (l v g : ℕ) (x : Option ℕ) (y : Bool) (ps : List Part) (t : List ℕ) (at c : ℕ) → Held p l v ps t
+    → Holds (step at (record { stand = stand_by p l v g x y; parts = ps }) c) (t ++ c ∷ [])
+step-held p l v g x y ps t at c (held begin e) =
+    lettered (stand_by Begin l v g x y) t at c [] none e
+step-held p l v g x y ps t at c (held (after_segment {p = r} {ps = rs} w) e) =
+    lettered (stand_by Letter l v g x y) t at c (r ∷ rs) w e
+step-held p l v g x y ps t at c (held (after_letter {b = b} {ps = rs} a) e) =
+    spaced (stand_by Lettered l v g x y) t at c b [] rs a (sym (append-nil _) ∙ e)
+step-held p l v g x y ps t at c (held (after_space {b = b} {hs = hs} {ps = rs} a n) e) =
+    begun (stand_by Digit l v g x y) t at c b hs rs a n e
+step-held p l v g x y ps t at c (held (in_number {b = b} {h = h} {hs = hs} {ps = rs} n w k a) e) =
+    numbered (stand_by Number l v g x y) t at c b h n hs rs a w k (sym (append-nil _) ∙ e)
+step-held p l v g x y ps t at c (held (after_point {b = b} {h = h} {hs = hs} {ps = rs} n w a) e) =
+    halved (stand_by Point l v g x y) t at c b h n hs rs a w e
+step-held p l v g x y ps t at c (held (after_half {b = b} {h = h} {hs = hs} {ps = rs} a) e) =
+    spaced (stand_by Halved l v g x y) t at c b (h ∷ hs) rs a (sym (append-nil _) ∙ e)
+step-held p l v g x y ps t at c halted = halted
 
 run-held : (bs : List ℕ) (at : ℕ) (r : Reading) (t : List ℕ) → Holds r t → Holds (run_from bs at r) (t ++ bs)
 run-held [] at r t h = rw append-nil h
 run-held (b ∷ bs) at r t h =
     subst (λ (u : List ℕ). Holds (run_from bs (suc at) (step at r b)) u) (append_assoc t (b ∷ []) bs)
     (run-held bs (suc at) (step at r b) (t ++ b ∷ [])
-    (step-held r.stand.phase r.stand.left r.stand.value r.stand.begun r.stand.over r.stand.large r.stand.other r.stand.place r.parts t at b h))
+    (step-held r.stand.phase r.stand.left r.stand.value r.stand.begun r.stand.large r.stand.other r.parts t at b h))
 
 pub read_held : (s : List ℕ) → Holds (run s) s
 unfolding run
@@ -188,22 +194,47 @@ ended-text p l v ps t (held (after_half {b = b} {h = h} {hs = hs} {ps = rs} a) e
     back-text (part b (h ∷ hs) ∷ rs) (and (whole b (h ∷ hs) a.named (omega (arith, a.counted))) a.before) ∙ sym (append-nil _) ∙ e
 ended-text p l v ps t halted z = absurd (false≢true z)
 
--- ---- a text that is read is the text of what it reads
-read_of : (n : ℕ) (s : Stand) (xs ds : List Drawn) → answer_of n s xs ≡ segments ds → (ended s.phase s.left ≡ true) × (xs ≡ ds)
-read_of n s xs ds = go (is_stopped s.phase) (ended s.phase s.left) s.over s.other
+-- ---- what an answer says of the stand
+pub fine-told : (n : ℕ) (s : Stand) → verdict_of n s ≡ Ok tt → (ended s.phase s.left ≡ true) × (s.large ≡ None) × (s.other ≡ false)
+fine-told n s = go (ended s.phase s.left) s.large s.other
   where
-    go : (a b c d : Bool) → given (cond a (Refused 17 s.place) (cond b (cond c (Refused 18 s.large) (cond d (Refused 19 0) Fine)) (Refused 17 n))) xs ≡ segments ds → (b ≡ true) × (xs ≡ ds)
-    go true b c d e = let z : ◌≡◌ {A = ℕ} 0 1 = cc in absurd (omega arith)
-    go false true true d e = let z : ◌≡◌ {A = ℕ} 0 1 = cc in absurd (omega arith)
-    go false true false true e = let z : ◌≡◌ {A = ℕ} 0 1 = cc in absurd (omega arith)
-    go false true false false e = (refl, cc)
-    go false false c d e = let z : ◌≡◌ {A = ℕ} 0 1 = cc in absurd (omega arith)
+    go : (b : Bool) (c : Option ℕ) (d : Bool) → cond b (whole_verdict c d) (Err (NotProfile (broken_at n s.phase))) ≡ Ok tt → (b ≡ true) × (c ≡ None) × (d ≡ false)
+    go true (Some p) d e = absurd cc
+    go true None true e = absurd cc
+    go true None false e = (refl, refl, refl)
+    go false c d e = absurd cc
 
+given-fine : (v : Result (Unit {0}) TextRefusal) (xs ds : List Drawn) → given v xs ≡ segments ds → (v ≡ Ok tt) × (xs ≡ ds)
+given-fine (Ok u) xs ds e = (refl, cc)
+given-fine (Err r) xs ds e = absurd cc
+
+pub answered-fine : (n : ℕ) (s : Stand) (xs ds : List Drawn) → answer_of n s xs ≡ segments ds → (ended s.phase s.left ≡ true) × (s.large ≡ None) × (s.other ≡ false) × (xs ≡ ds)
+answered-fine n s xs ds e =
+    let v = given-fine (verdict_of n s) xs ds e in
+    let t = fine-told n s v.0 in
+    (t.0, t.1, t.2, v.1)
+
+abbrev pub Told : ℕ → Stand → TextRefusal → Type 0
+Told n s TooFar = ⊥
+Told n s NotThere = ⊥
+Told n s (ShortBuffer m) = ⊥
+Told n s (NotProfile p) = (ended s.phase s.left ≡ false) × (p ≡ broken_at n s.phase)
+Told n s (LargeNumber p) = (ended s.phase s.left ≡ true) × (s.large ≡ Some p)
+Told n s NoMove = (ended s.phase s.left ≡ true) × (s.large ≡ None) × (s.other ≡ true)
+
+pub refused-told : (n : ℕ) (s : Stand) (xs : List Drawn) (r : TextRefusal) → answer_of n s xs ≡ refused r → Told n s r
+refused-told n s xs r = go (ended s.phase s.left) s.large s.other refl refl refl
+  where
+    go : (b : Bool) (c : Option ℕ) (d : Bool) → ended s.phase s.left ≡ b → s.large ≡ c → s.other ≡ d
+        → given (cond b (whole_verdict c d) (Err (NotProfile (broken_at n s.phase)))) xs ≡ refused r → Told n s r
+    go true (Some p) d i j k e = let q : LargeNumber p ≡ r = cc in subst (Told n s) q (i, j)
+    go true None true i j k e = let q : NoMove ≡ r = cc in subst (Told n s) q (i, j, k)
+    go true None false i j k e = absurd cc
+    go false c d i j k e = let q : NotProfile (broken_at n s.phase) ≡ r = cc in subst (Told n s) q (i, refl)
+
+-- ---- a text that is read is the text of what it reads
 pub read-text : (s : List ℕ) (ds : List Drawn) → read s ≡ segments ds → text_of ds ≡ s
 unfolding read
 read-text s ds e =
-    let z : (ended (run s).stand.phase (run s).stand.left ≡ true) × (drawn_all (run s).parts ≡ ds) = read_of (length s) (run s).stand (drawn_all (run s).parts) ds e in
-    ap text_of (sym z.1) ∙ ended-text _ _ _ _ s (read_held s) z.0
-
-pub digit_low : (b : ℕ) → is_digit b ≡ true → 48 ≤ b
-digit_low b e = leb-true 48 b (both (leb 48 b) (leb b 57) e).0
+    let z = answered-fine (length s) (run s).stand (drawn_all (run s).parts) ds e in
+    ap text_of (sym z.3) ∙ ended-text _ _ _ _ s (read_held s) z.0

@@ -6,7 +6,7 @@ use Prim.Native.Nat.{ℕ, zero, suc, ◌+◌, ◌-◌, ◌*◌, ◌/◌, ◌%◌
 use native.Mathlib.Nat.{mul-zero, mul-suc}
 use native.Mathlib.Numerals.{add-one}
 use native.Mathlib.Omega.{arith}
-use borrow.Author.Tests.{leb-true, ltb-true, ltb-false, lt-ltb, le-ltb}
+use borrow.Author.Tests.{leb-true, ltb-true, ltb-false}
 use lib.Dec.{leb, ltb}
 use lib.ListN.{length, get_or, take, drop, length-append, get_or-append, take-append-drop}
 use lib.Seq.{take-suc, length-take-le, get_or-append-add, get_or-take}
@@ -19,13 +19,12 @@ use Rattle.grid.specs.Record.{no_box, no_curve, boxes_of, curves_of, near, box_n
 use Rattle.path.specs.declared.drawn.Drawn.{Drawn}
 use Rattle.path.specs.declared.drawn.Drawn.TheVariants.{Move, Line, Cubic, Close}
 use Rattle.path.specs.declared.stroke.Stroke.{Stroke}
-use Rattle.path.specs.declared.stroke.Stroke.TheVariants.{Move as move, Line as line, Curve as curve, Close as close}
 use Rattle.path.specs.Number.{limit, limit_halves, number_text}
 use Rattle.path.specs.Drawn.{InRange}
 use Rattle.path.specs.Text as text
 use Rattle.path.specs.Text.{numbers_of, numbers_text, segment_text, rest_text, text_of, Small, Smalls, Led}
 use Rattle.path.specs.Segments.{box_drawn, curve_drawn, joined, drawn_of}
-use Rattle.path.specs.code.Strokes.{doubled_of, InReach, IsStroke, box_stroke, curve_stroke, size_of, stroke_at, stroke_of, next_text}
+use Rattle.path.specs.code.Strokes.{doubled_of, InReach, IsStroke, box_stroke, curve_stroke, size_of, stroke_at, next_text}
 use Rattle.path.proofs.Numbers.{number_bound}
 use Rattle.path.proofs.Backs.{rest-append, text-next}
 use Rattle.path.proofs.Readings.{both}
@@ -192,38 +191,6 @@ module _ (s : SheetRecord) (b : length s.boxes ≡ 48) (c : length s.curves ≡ 
     pub stroke_is : (t : Stroke) → t ≡ stroke_at s k → IsStroke (drawn_of s) k t
     stroke_is t e = rw e (record { same = sym by_number; reach = stroke_reach })
 
-    -- segment k by the box and the curve that the code looks up for it
-    module _ (i j : ℕ) (p : i ≡ cond (ltb k (5 * s.count)) (k / 5) 0) (q : j ≡ cond (ltb k (5 * s.count)) 0 ((k - 5 * s.count) / 2)) where
-      box-is : k < 5 * s.count → i ≡ k / 5
-      box-is l = p ∙ rw (lt-ltb k (5 * s.count) l)
-
-      curve-is : 5 * s.count ≤ k → j ≡ (k - 5 * s.count) / 2
-      curve-is l = q ∙ rw (le-ltb k (5 * s.count) l)
-
-      pub box-room : i < 48
-      box-room = go (ltb k (5 * s.count)) refl
-        where
-          go : (t : Bool) → ltb k (5 * s.count) ≡ t → i < 48
-          go true e = let l = ltb-true k (5 * s.count) e in omega (arith, box-is l, o.few)
-          go false e = let u : i ≡ 0 = p ∙ rw e in omega arith
-
-      pub curve-room : j < 88
-      curve-room = go (ltb k (5 * s.count)) refl
-        where
-          go : (t : Bool) → ltb k (5 * s.count) ≡ t → j < 88
-          go true e = let u : j ≡ 0 = q ∙ rw e in omega arith
-          go false e = let l = ltb-false k (5 * s.count) e in omega (arith, curve-is l, o.thin, h)
-
-      pub parts-near : (k < 5 * s.count → box_near s.x s.y (get_or s.boxes i no_box) ≡ true) × (5 * s.count ≤ k → curve_near s.x s.y (get_or s.curves j no_curve) ≡ true)
-      parts-near = (λ l. rw (box-is l) (box-near (k / 5) (omega arith)), λ l. rw (curve-is l) (curve-near ((k - 5 * s.count) / 2) (omega arith)))
-
-      pub parts_are : (t : Stroke) → t ≡ stroke_of s.x s.y (5 * s.count) (get_or s.boxes i no_box) (get_or s.curves j no_curve) k → IsStroke (drawn_of s) k t
-      parts_are t e = stroke_is t (e ∙ go (ltb k (5 * s.count)) refl)
-        where
-          go : (b : Bool) → ltb k (5 * s.count) ≡ b → stroke_of s.x s.y (5 * s.count) (get_or s.boxes i no_box) (get_or s.curves j no_curve) k ≡ stroke_at s k
-          go true f = rw (f, box-is (ltb-true k (5 * s.count) f))
-          go false f = rw (f, curve-is (ltb-false k (5 * s.count) f))
-
 -- ---- a sound sheet is in the profile: a move first, no number above the limit
 led-of : (x y : ℕ) (bs : List BoxRecord) (cs : List Curve) → Led (joined (box_drawn x y) bs ++ joined (curve_drawn x y) cs)
 led-of x y [] [] = text.none
@@ -305,13 +272,6 @@ fits-to ds k h =
     omega (arith, length_to ds k h, grows (take (k + 1) ds) (drop (k + 1) ds), ap (λ (z : List Drawn). length (text_of z)) (take-append-drop (k + 1) ds))
 
 -- ---- segment k with the space before it
-pub next-first : (k : ℕ) (d : Drawn) → k ≡ 0 → segment_text d ≡ next_text k d
-next-first k d e = rw e
-
-pub next-later : (k : ℕ) (d : Drawn) → (k ≡ 0 → ⊥) → 32 ∷ segment_text d ≡ next_text k d
-next-later zero d n = absurd (n refl)
-next-later (suc k) d n = refl
-
 -- ---- texts of numbers in range are short enough for their sums
 numbers_bound : (hs : List ℕ) → Small hs → length (numbers_text hs) ≤ 16777220 * length hs
 numbers_bound hs text.none = omega arith
@@ -340,12 +300,6 @@ pub text_bound : (ds : List Drawn) → Smalls ds → length (text_of ds) ≤ 100
 unfolding text_of
 text_bound ds text.none = omega arith
 text_bound xs (text.more {d = d} {ds = ds} h r) = omega (arith, length-append (segment_text d) (rest_text ds), segment_bound d h, rest_bound ds r)
-
-pub reach_range : (t : Stroke) → InReach t → InRange (doubled_of t)
-reach_range (move x y) h = (omega (arith, h.0), omega (arith, h.1))
-reach_range (line x y) h = (omega (arith, h.0), omega (arith, h.1))
-reach_range (curve a b c d) h = (omega (arith, h.0), omega (arith, h.1, h.3), omega (arith, h.2), omega (arith, h.1, h.3), omega (arith, h.2), omega (arith, h.3))
-reach_range close h = tt
 
 -- a sound sheet has few segments, whatever its arrays
 pub drawn-few : (s : SheetRecord) → sound_of s ≡ true → length (drawn_of s) ≤ 416

@@ -1,6 +1,6 @@
 -- A number's digits written from the last to the first: what is written and what is left. Assumes nothing.
-use mathlib.Core.Path.{◌≡◌, refl, sym, ap, ◌∙◌}
-use mathlib.Core.List.{List, [], ◌∷◌, ◌++◌, append-nil, append_assoc}
+use mathlib.Core.Path.{◌≡◌, sym, ap, ◌∙◌}
+use mathlib.Core.List.{List, [], ◌∷◌, ◌++◌, append_assoc}
 use Prim.Native.Nat.{ℕ, ◌+◌, ◌-◌, ◌/◌, ◌%◌, ◌≤◌, ◌<◌}
 use native.Mathlib.Omega.{arith}
 use lib.ListN.{length, set, length-append}
@@ -19,9 +19,6 @@ pub record Tail (buf₀ : List ℕ) (at n : ℕ) (buf : List ℕ) (m i : ℕ) : 
   pub same : buf ≡ put buf₀ i rest
 
 module _ (buf₀ : List ℕ) (at n : ℕ) where
-  pub tail-starts : (e : ℕ) → e ≡ length (digits n) → Tail buf₀ at n buf₀ n (at + e)
-  tail-starts e h = record { rest = []; split = sym (append-nil (digits n)); here = rw h; small = omega arith; same = refl }
-
   pub tail-long : (buf : List ℕ) (m i : ℕ) → Tail buf₀ at n buf m i → length buf ≡ length buf₀
   tail-long buf m i t = ap length t.same ∙ length-sets buf₀ i t.rest
 

@@ -1,5 +1,5 @@
 -- How long a text can be: at most 74 bytes a box and 72 a curve for any sound sheet; 68 a curve, and 9,467 in all, for a chart's own sheet. Assumes nothing.
-use mathlib.Core.Path.{◌≡◌, refl, sym, ap, subst}
+use mathlib.Core.Path.{◌≡◌, refl, sym, ap, subst, ◌∙◌}
 use mathlib.Core.Bool.{Bool, true, false}
 use mathlib.Core.List.{List, [], ◌∷◌, ◌++◌}
 use Prim.Native.Nat.{ℕ, zero, suc, ◌+◌, ◌-◌, ◌*◌, ◌/◌, ◌%◌, ◌^◌, ◌≤◌, ◌<◌}
@@ -11,7 +11,6 @@ use lib.ListN.{length, length-append, length-map}
 use Rattle.laws.specs.Bytes.{all_of}
 use Rattle.laws.specs.Lists.{All}
 use Rattle.laws.proofs.Lists.{all_map}
-use Rattle.chart.specs.declared.Answer.TheVariants.{Ready}
 use Rattle.chart.specs.declared.Setting.{Setting}
 use Rattle.graph.specs.Laws.{Laws}
 use Rattle.graph.proofs.Gathers.{graph-laws}
@@ -19,7 +18,7 @@ use Rattle.graph.proofs.CountLaws.{sources-most, cuts-most}
 use Rattle.grid.specs.declared.BoxRecord.{BoxRecord}
 use Rattle.grid.specs.declared.Curve.{Curve}
 use Rattle.grid.specs.declared.SheetRecord.{SheetRecord}
-use Rattle.grid.specs.declared.Outcome.{Outcome}
+use Rattle.refusals.specs.declared.Refusal.{Refusal}
 use Rattle.grid.specs.RenderGrid.{Sheet}
 use Rattle.grid.specs.Record.{boxes_of, curves_of, box_near, curve_near, sound_of}
 use Rattle.grid.specs.Curves.{box_record, curves, record_of}
@@ -29,7 +28,7 @@ use Rattle.grid.proofs.PointLaws.{Even}
 use Rattle.grid.proofs.SoundLaws.{CurveIn as CurveOn, Drawing, drawing, Held, held, sheet-sound, boxes-are, curves-are, Own, own}
 use Rattle.path.specs.declared.drawn.Drawn.{Drawn}
 use Rattle.path.specs.declared.drawn.Drawn.TheVariants.{Move, Line, Cubic, Close}
-use Rattle.path.specs.declared.Written.TheVariants.{Done}
+use Rattle.std.specs.Prelude.{Result, Ok}
 use Rattle.path.specs.Number.{limit, limit_halves, digits, number_text}
 use Rattle.path.specs.Text.{numbers_of, numbers_text, segment_text, rest_text, text_of}
 use Rattle.path.specs.Segments.{box_drawn, curve_drawn, joined, drawn_of}
@@ -236,16 +235,17 @@ sheet-whole v s x y sh e =
     (rw (curves-own v s x y sh e) (curves-whole x y sh.width sh.height (curves sh) (h v s x y sh e).curves_in))
 
 -- the text of a chart's sheet has at most 9,467 bytes
-module _ (v : Setting) (s : List ℕ) (x y : ℕ) (a : Outcome) (i : IsSheet v s x y a) (q : a.answer ≡ Ready) where
-  pub own-text-most : length (text_of (drawn_of a.sheet)) ≤ 9467
-  own-text-most =
-      let w : Own v s x y a.sheet = own v s x y a i.whole q in
-      subst (λ (r : SheetRecord). length (text_of (drawn_of r)) ≤ 9467) (sym w.is) (sheet-text-most v s x y w.sheet w.laid)
+module _ (v : Setting) (s : List ℕ) (x y : ℕ) (a : Result SheetRecord Refusal) (i : IsSheet v s x y a) (r : SheetRecord) (q : a ≡ Ok r) where
+  w : Own v s x y r
+  w = own v s x y r (sym i.whole ∙ q)
+
+  pub own-text-most : length (text_of (drawn_of r)) ≤ 9467
+  own-text-most = subst (λ (u : SheetRecord). length (text_of (drawn_of u)) ≤ 9467) (sym w.is) (sheet-text-most v s x y w.sheet w.laid)
 
   -- so a buffer of that length is never too short
-  pub own-written : (buf : List ℕ) → 9467 ≤ length buf → written_of buf (sheet_answer a.sheet) ≡ Done (length (text_of (drawn_of a.sheet)))
-  own-written buf l = (own_serves v s x y a i q).text buf (omega (arith, own-text-most))
+  pub own-written : (buf : List ℕ) → 9467 ≤ length buf → written_of buf (sheet_answer r) ≡ Ok (length (text_of (drawn_of r)))
+  own-written buf l = (own_serves v s x y a i r q).text buf (omega (arith, own-text-most))
 
   -- and every number in it is whole
-  pub own-whole : All Whole (drawn_of a.sheet)
-  own-whole = let w : Own v s x y a.sheet = own v s x y a i.whole q in subst (λ (r : SheetRecord). All Whole (drawn_of r)) (sym w.is) (sheet-whole v s x y w.sheet w.laid)
+  pub own-whole : All Whole (drawn_of r)
+  own-whole = subst (λ (u : SheetRecord). All Whole (drawn_of u)) (sym w.is) (sheet-whole v s x y w.sheet w.laid)

@@ -8,17 +8,17 @@ use borrow.Author.Tests.{eqb-true, eqb-false}
 use lib.Dec.{eqb}
 use lib.ListN.{length, get_or, take, length-append, get_or-append}
 use lib.Seq.{take-suc, take-length, length-take-le, get_or_at}
+use Rattle.std.specs.Prelude.{None, Result, Ok}
+use Rattle.refusals.specs.declared.TextRefusal.{TextRefusal}
 use Rattle.path.specs.declared.reader.Stand.{Stand}
-use Rattle.path.specs.declared.reader.Verdict.{Verdict}
-use Rattle.path.specs.declared.reader.Verdict.TheVariants.{Fine, Refused}
 use Rattle.path.specs.declared.pass.Pass.{Pass}
 use Rattle.path.specs.declared.drawn.Drawn.{Drawn}
 use Rattle.path.specs.declared.drawn.Drawn.TheVariants.{Move, Line, Cubic, Close}
 use Rattle.path.specs.Number.{limit_halves}
 use Rattle.path.specs.Drawn.{InRange}
-use Rattle.path.specs.Reader.{Part, Reading, step, run_from, unread, run, is_stopped, ended, verdict_of, given, drawn_from, part_of, drawn_all, read, act, moved, gained}
-use Rattle.path.specs.code.Pass.{pass_to, passed, begins, kept_of, drawn_six}
-use Rattle.path.proofs.Readings.{Holds, read_held}
+use Rattle.path.specs.Reader.{Part, Reading, step, run_from, unread, run, verdict_of, given, drawn_from, part_of, drawn_all, read, act, moved, gained}
+use Rattle.path.specs.code.Pass.{pass_to, passed, begins, kept_of}
+use Rattle.path.proofs.Readings.{Holds, read_held, fine-told}
 use Rattle.path.proofs.Writings.{run-append}
 use Rattle.path.proofs.Keeps.{nth, AllSmall, SmallParts, Keeps, step_keeps}
 
@@ -43,7 +43,7 @@ along-next k s t i c r m h a =
       keeps =
           subst (λ (z : Stand). Keeps k (moved (act r.stand c) i r.stand) (gained (act r.stand c) r.parts) (m.count + begins (act z c))
           (cond (eqb (m.count + begins (act z c)) (k + 1)) (kept_of (act z c) (moved (act z c) i z).value m.kept) m.kept)) (sym a.same)
-          (step_keeps r.stand.phase r.stand.left r.stand.value r.stand.begun r.stand.over r.stand.large r.stand.other r.stand.place r.parts t k i m.count m.kept c h a.keeps);
+          (step_keeps r.stand.phase r.stand.left r.stand.value r.stand.begun r.stand.large r.stand.other r.parts t k i m.count m.kept c h a.keeps);
     }
 
 along : (k : ℕ) (s : List ℕ) (i : ℕ) → i ≤ length s → Along k s (run (take i s)) (pass_to k s i)
@@ -97,16 +97,7 @@ nth_range (p ∷ ps) k h = go (eqb (length ps) k) (nth_range ps k h.1)
     go false i = i
 
 -- ---- the verdict
-fine-over : (n : ℕ) (s : Stand) → verdict_of n s ≡ Fine → s.over ≡ false
-fine-over n s = go (is_stopped s.phase) (ended s.phase s.left) s.over s.other
-  where
-    go : (a b c d : Bool) → cond a (Refused 17 s.place) (cond b (cond c (Refused 18 s.large) (cond d (Refused 19 0) Fine)) (Refused 17 n)) ≡ Fine → c ≡ false
-    go true b c d e = let z : ◌≡◌ {A = ℕ} 0 1 = cc in absurd (omega arith)
-    go false true true d e = let z : ◌≡◌ {A = ℕ} 0 1 = cc in absurd (omega arith)
-    go false true false d e = refl
-    go false false c d e = let z : ◌≡◌ {A = ℕ} 0 1 = cc in absurd (omega arith)
-
-module _ (k : ℕ) (s : List ℕ) (m : Pass) (v : Verdict) (e : m ≡ pass_to k s (length s)) (f : v ≡ verdict_of (length s) m.stand) where
+module _ (k : ℕ) (s : List ℕ) (m : Pass) (v : Result (Unit {0}) TextRefusal) (e : m ≡ pass_to k s (length s)) (f : v ≡ verdict_of (length s) m.stand) where
   same-stand : m.stand ≡ (run s).stand
   same-stand = ap (λ (z : Pass). z.stand) e ∙ (along-all k s).same
 
@@ -116,21 +107,21 @@ module _ (k : ℕ) (s : List ℕ) (m : Pass) (v : Verdict) (e : m ≡ pass_to k 
   -- what is read is what the verdict says
   pub read-given : read s ≡ given v (drawn_all (run s).parts)
   unfolding read
-  read-given = ap (λ (z : Verdict). given z (drawn_all (run s).parts)) (sym (f ∙ ap (verdict_of (length s)) same-stand))
+  read-given = ap (λ (z : Result (Unit {0}) TextRefusal). given z (drawn_all (run s).parts)) (sym (f ∙ ap (verdict_of (length s)) same-stand))
 
   pub count-given : m.count ≡ length (drawn_all (run s).parts)
   count-given = keeps-all.counted ∙ sym (length-drawn (run s).parts)
 
-  module _ (fine : v ≡ Fine) where
-    not_over : (run s).stand.over ≡ false
-    not_over = fine-over (length s) (run s).stand (sym (f ∙ ap (verdict_of (length s)) same-stand) ∙ fine)
+  module _ (fine : v ≡ Ok tt) where
+    not_over : (run s).stand.large ≡ None
+    not_over = (fine-told (length s) (run s).stand (sym (f ∙ ap (verdict_of (length s)) same-stand) ∙ fine)).1
 
-    pub kept-given : k < m.count → drawn_six m.kept.letter m.kept.numbers ≡ get_or (drawn_all (run s).parts) k (Move 0 0)
+    pub kept-given : k < m.count → drawn_from m.kept.letter m.kept.numbers ≡ get_or (drawn_all (run s).parts) k (Move 0 0)
     kept-given h = rw (keeps-all.kept not_over) (sym (nth-drawn (run s).parts k (Move 0 0) (omega (arith, keeps-all.counted))))
 
-    pub range_given : InRange (drawn_six m.kept.letter m.kept.numbers)
+    pub range_given : InRange (drawn_from m.kept.letter m.kept.numbers)
     range_given = rw (keeps-all.kept not_over) (nth_range (run s).parts k (keeps-all.small not_over))
 
 -- no number of what is read is above the limit, where none was marked
-pub small_all : (s : List ℕ) → (run s).stand.over ≡ false → SmallParts (run s).parts
+pub small_all : (s : List ℕ) → (run s).stand.large ≡ None → SmallParts (run s).parts
 small_all s e = (along-all 0 s).keeps.small e

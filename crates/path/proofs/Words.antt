@@ -40,7 +40,3 @@ cubic-split a b c d x y =
     append_assoc (67 ∷ pair_text a b) (pair_text c d) (pair_text x y)
     ∙ ap (λ (z : List ℕ). (67 ∷ pair_text a b) ++ z) (sym (numbers-append (c ∷ d ∷ []) (x ∷ y ∷ [])))
     ∙ ap (λ (z : List ℕ). 67 ∷ z) (sym (numbers-append (a ∷ b ∷ []) (c ∷ d ∷ x ∷ y ∷ [])))
-
-pub cubic-length : (a b c d x y : ℕ) → length (segment_text (Cubic a b c d x y)) ≡ length (pair_text a b) + length (pair_text c d) + length (pair_text x y) + 1
-cubic-length a b c d x y =
-    omega (arith, sym (ap length (cubic-split a b c d x y)), length-append ((67 ∷ pair_text a b) ++ pair_text c d) (pair_text x y), length-append (67 ∷ pair_text a b) (pair_text c d))

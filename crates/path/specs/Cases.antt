@@ -4,7 +4,8 @@
 use Rattle.std.specs.Prelude.{ℕ, ◌≡◌, refl, Bool, true, false, ◌&&◌, List, [], ◌∷◌, ◌++◌, eqb, length, replicate}
 use Prim.Native.String.{String}
 use Rattle.laws.specs.Bytes.{ascii, all_of, same}
-use Rattle.chart.specs.Read.{Numbers}
+use Rattle.refusals.specs.declared.Numbers.{Numbers}
+use Rattle.refusals.specs.Refusals.{text_numbers_of, text_numbers_in}
 use Rattle.grid.specs.declared.BoxRecord.{BoxRecord}
 use Rattle.grid.specs.declared.Curve.{Curve}
 use Rattle.grid.specs.declared.SheetRecord.{SheetRecord}
@@ -15,7 +16,7 @@ use Rattle.path.specs.Number.{digits, number_text}
 use Rattle.path.specs.Text.{letter_of, numbers_of, text_of}
 use Rattle.path.specs.Segments.{drawn_of}
 use Rattle.path.specs.Reader.{Answer, segments, refused, read}
-use Rattle.path.specs.Answers.{sheet_answer, given_of, written_of, given_numbers, written_numbers}
+use Rattle.path.specs.Answers.{sheet_answer, given_of, written_of}
 
 -- ---- tests
 -- letters and numbers, one after the other: for each letter how many numbers follow is known
@@ -23,17 +24,17 @@ abbrev words : List Drawn → List ℕ
 words [] = []
 words (d ∷ ds) = letter_of d ∷ numbers_of d ++ words ds
 
--- 0 and how many segments, or the refusal's two numbers
-abbrev counted : Answer → ℕ → ℕ → Bool
-counted (segments ds) a b = eqb a 0 && eqb (length ds) b
-counted (refused n p) a b = eqb n a && eqb p b
-
 abbrev numbered : Numbers → ℕ → ℕ → Bool
 numbered n a b = eqb n.first a && eqb n.second b
 
+-- 0 and how many segments, or the refusal's two numbers
+abbrev counted : Answer → ℕ → ℕ → Bool
+counted (segments ds) a b = eqb a 0 && eqb (length ds) b
+counted (refused r) a b = numbered (text_numbers_of r) a b
+
 abbrev reading : Answer → List Drawn → Bool
 reading (segments es) ds = same (words es) (words ds)
-reading (refused n p) ds = false
+reading (refused r) ds = false
 
 -- ---- sheets
 abbrev box : ℕ → ℕ → ℕ → ℕ → BoxRecord
@@ -80,8 +81,8 @@ data Case : Type 0 where
 holds : Case → Bool
 unfolding read text_of number_text digits sound_of drawn_of
 holds (reads s a b) = counted (read (ascii s)) a b
-holds (gives s k a b) = numbered (given_numbers (given_of k (read (ascii s)))) a b
-holds (rewrites s n a b) = numbered (written_numbers (written_of (replicate n 0) (read (ascii s)))) a b
+holds (gives s k a b) = numbered (text_numbers_in (given_of k (read (ascii s)))) a b
+holds (rewrites s n a b) = numbered (text_numbers_in (written_of (replicate n 0) (read (ascii s)))) a b
 holds (means s ds) = same (text_of ds) (ascii s) && reading (read (ascii s)) ds
 holds (has s a b) = counted (sheet_answer s) a b
 holds (draws s t) = same (text_of (drawn_of s)) (ascii t)

@@ -2,16 +2,17 @@
 -- 'the stand-in table gains `#1(invalid)` to `#255(invalid)` after `#31`' (document 02, L5).
 -- A part is of bytes, both bytes of a degree sign among them.
 -- Assumes nothing.
-use Rattle.std.specs.Prelude.{ℕ, zero, suc, ◌+◌, ◌-◌, ◌*◌, ◌≤◌, ◌≡◌, Bool, true, false, cond, ◌&&◌, List, [], ◌∷◌, ◌++◌, leb, ltb, length, take, drop}
+use Rattle.std.specs.Prelude.{ℕ, zero, suc, ◌+◌, ◌-◌, ◌*◌, ◌≤◌, ◌≡◌, Bool, true, false, cond, ◌&&◌, List, [], ◌∷◌, ◌++◌, leb, ltb, length, take, drop, Result, Ok, Err}
 use Rattle.std.specs.Borrow.{Bor}
 use Rattle.laws.specs.Bytes.{ascii, same}
-use Rattle.chart.specs.declared.Answer.{Answer}
-use Rattle.chart.specs.declared.Answer.TheVariants.{Ready, Refused}
+use Rattle.refusals.specs.declared.Refusal.{Refusal}
+use Rattle.refusals.specs.declared.Refusal.TheVariants.{NotThere}
 use Rattle.chart.specs.Text.{Texted, characters_in, ending}
+use Rattle.grid.specs.declared.LabelPlace.{LabelPlace}
 use Rattle.grid.specs.Labels.{character_width}
 use Rattle.grid.specs.Labelled.{Labelled, ready, refusal}
-use Rattle.path.specs.declared.label.Span.{Span}
-use Rattle.path.specs.declared.LabelAnswer.{LabelAnswer}
+use Rattle.std.specs.declared.ops.Range.{Range}
+use Rattle.path.specs.declared.PlacedLabel.{PlacedLabel}
 use Rattle.path.specs.declared.LabelSpan.{LabelSpan}
 use Rattle.path.specs.Number.{digits}
 
@@ -65,27 +66,34 @@ unfoldable pub stand_ins : List ℕ
 stand_ins = stand_ins_to 287
 
 -- where text j stands: after those before it
-abbrev pub stand_in_span : ℕ → Span
-stand_in_span j = record { at = length (stand_ins_to j); end = length (stand_ins_to j) + length (stand_in j) }
+abbrev pub stand_in_span : ℕ → Range ℕ
+stand_in_span j = record { start = length (stand_ins_to j); end = length (stand_ins_to j) + length (stand_in j) }
 
 -- ---- what the two calls answer, by the label that the chart has or by its refusal
 -- 15: 'or a lent table that isn't the fixed texts', even if the label's text is in the chart; 1 to 14 come first
 abbrev pub tabled : List ℕ → Labelled → Labelled
-tabled t (ready p) = cond (same t stand_ins) (ready p) (refusal 15 0)
-tabled t (refusal number second) = refusal number second
+tabled t (ready p) = cond (same t stand_ins) (ready p) (refusal NotThere)
+tabled t (refusal why) = refusal why
 
--- 'its place, size and width, or the refusal', all of whose numbers are 0
-abbrev pub answer_in : Labelled → LabelAnswer
-answer_in (ready p) = record { answer = Ready; x = p.x; y = p.y; size = p.size; width = p.width }
-answer_in (refusal number second) = record { answer = Refused number second; x = 0; y = 0; size = 0; width = 0 }
+-- 'its place, size and width, or the refusal'
+abbrev pub placed_in : Labelled → Result PlacedLabel Refusal
+placed_in (ready p) = Ok (record { x = p.x; y = p.y; size = p.size; width = p.width })
+placed_in (refusal why) = Err why
 
-abbrev pub label_answer_of : List ℕ → Labelled → LabelAnswer
-label_answer_of t l = answer_in (tabled t l)
+abbrev pub placed_label_of : List ℕ → Labelled → Result PlacedLabel Refusal
+placed_label_of t l = placed_in (tabled t l)
 
--- 'the other the part, which if refused is the empty one at the chart's start'; in the chart s it ends after the label's characters
+-- where a label's text stands: in the table its fixed text, in the chart s so many characters
+abbrev pub range_of : List ℕ → LabelPlace → Range ℕ
+range_of s p = cond p.fixed (stand_in_span p.number) (record { start = p.at; end = ending p.len s p.at })
+
+abbrev pub part_in : Bool → Range ℕ → Place
+part_in fixed r = cond fixed (table r.start r.end) (chart r.start r.end)
+
+-- 'the other the part, which if refused is the empty one at the chart's start'
 abbrev pub place_in : List ℕ → Labelled → Place
-place_in s (ready p) = cond p.fixed (table (stand_in_span p.number).at (stand_in_span p.number).end) (chart p.at (ending p.len s p.at))
-place_in s (refusal number second) = chart 0 0
+place_in s (ready p) = part_in p.fixed (range_of s p)
+place_in s (refusal why) = chart 0 0
 
 abbrev pub label_part_of : List ℕ → List ℕ → Labelled → Place
 label_part_of s t l = place_in s (tabled t l)
@@ -96,8 +104,10 @@ pub record LabelText (s t : List ℕ) (v : Labelled) : Type 0 where
   pub within : Within (length s) (length t) (place_in s v)
   -- it is text bytes and degree signs, both bytes of each
   pub texted : Texted (text_at s t (place_in s v))
-  -- 'The rule for widths moves from bytes to characters': the label is as wide as the part's characters
-  pub wide : (answer_in v).width ≡ character_width (answer_in v).size * characters_in (text_at s t (place_in s v))
+  -- 'The rule for widths moves from bytes to characters': a label is as wide as the part's characters
+  pub wide : (l : PlacedLabel) → placed_in v ≡ Ok l → l.width ≡ character_width l.size * characters_in (text_at s t (place_in s v))
+  -- refused, the part has no character
+  pub none : (why : Refusal) → placed_in v ≡ Err why → characters_in (text_at s t (place_in s v)) ≡ 0
 
 -- `label_part`, where the chart s and the table t are lent: the part itself
 pub record IsLabelPart (s t : Bor (List ℕ)) (l : Labelled) (r : Bor (List ℕ)) : Type 0 where
@@ -105,15 +115,19 @@ pub record IsLabelPart (s t : Bor (List ℕ)) (l : Labelled) (r : Bor (List ℕ)
   pub text : LabelText s.now t.now (tabled t.now l)
 
 -- the same part in numbers, for a caller that can't be handed a part: where it begins in the chart or in the table, and how many bytes it has
-abbrev pub span_in : Answer → Place → LabelSpan
-span_in a (chart b e) = record { answer = a; fixed = false; at = b; len = e - b }
-span_in a (table b e) = record { answer = a; fixed = true; at = b; len = e - b }
+abbrev pub span_of : Place → LabelSpan
+span_of (chart b e) = record { fixed = false; at = b; len = e - b }
+span_of (table b e) = record { fixed = true; at = b; len = e - b }
 
--- the answer of `label_place`, and the part of `label_part`
-abbrev pub label_span_of : List ℕ → List ℕ → Labelled → LabelSpan
-label_span_of s t l = span_in (label_answer_of t l).answer (label_part_of s t l)
+abbrev pub span_in : List ℕ → Labelled → Result LabelSpan Refusal
+span_in s (ready p) = Ok (span_of (place_in s (ready p)))
+span_in s (refusal why) = Err why
+
+-- the refusals of `label_place`, and the part of `label_part`
+abbrev pub label_span_of : List ℕ → List ℕ → Labelled → Result LabelSpan Refusal
+label_span_of s t l = span_in s (tabled t l)
 
 -- `label_span`
-pub record IsLabelSpan (s t : List ℕ) (l : Labelled) (r : LabelSpan) : Type 0 where
+pub record IsLabelSpan (s t : List ℕ) (l : Labelled) (r : Result LabelSpan Refusal) : Type 0 where
   pub whole : r ≡ label_span_of s t l
   pub text : LabelText s t (tabled t l)

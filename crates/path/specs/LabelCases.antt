@@ -1,11 +1,12 @@
 -- Labels through the whole definition, from the chart's bytes: what both calls answer. One table, one computed test. The numbers are the Rust's.
 -- Assumes nothing.
-use Rattle.std.specs.Prelude.{ℕ, ◌+◌, ◌≡◌, refl, Bool, true, cond, ◌&&◌, List, [], ◌∷◌, ◌++◌, take, drop}
+use Rattle.std.specs.Prelude.{ℕ, ◌+◌, ◌≡◌, refl, Bool, true, cond, ◌&&◌, List, [], ◌∷◌, ◌++◌, take, drop, Result, Ok, Err}
 use Prim.Native.String.{String}
 use Rattle.laws.specs.Bytes.{ascii, hex, all_of, same}
 use Rattle.laws.specs.Each.{each}
-use Rattle.chart.specs.declared.Answer.{Answer}
-use Rattle.chart.specs.declared.Answer.TheVariants.{Ready, Refused}
+use Rattle.refusals.specs.declared.Numbers.{Numbers}
+use Rattle.refusals.specs.declared.Refusal.{Refusal}
+use Rattle.refusals.specs.Refusals.{numbers_of}
 use Rattle.chart.specs.declared.Setting.TheVariants.{Default, Strict}
 use Rattle.chart.specs.Chart.{chart as chart_of}
 use Rattle.chart.specs.Text.{ending}
@@ -23,27 +24,32 @@ use Rattle.grid.specs.RenderNode.{drawn}
 use Rattle.grid.specs.RenderGrid.{sheet_of, sheet}
 use Rattle.grid.specs.Sheeted.{sheet_of_dag, sheeted}
 use Rattle.grid.specs.Labelled.{Labelled, labelled}
-use Rattle.path.specs.declared.LabelAnswer.{LabelAnswer}
+use Rattle.path.specs.declared.PlacedLabel.{PlacedLabel}
 use Rattle.path.specs.declared.LabelSpan.{LabelSpan}
 use Rattle.path.specs.Number.{digits}
-use Rattle.path.specs.Label.{Place, chart, table, text_at, stand_in, stand_ins_from, stand_ins, label_answer_of, label_part_of, label_span_of}
+use Rattle.path.specs.Label.{Place, chart, table, text_at, stand_in, stand_ins_from, stand_ins, placed_label_of, label_part_of, label_span_of}
 
--- 0 0 or the refusal's two numbers, then place, size and width
-abbrev numbers_by : Answer → List ℕ → List ℕ
-numbers_by Ready ns = 0 ∷ 0 ∷ ns
-numbers_by (Refused a b) ns = a ∷ b ∷ ns
+abbrev refusal_of : Numbers → List ℕ
+refusal_of n = n.first ∷ n.second ∷ []
 
-abbrev numbers : LabelAnswer → List ℕ
-numbers r = numbers_by r.answer (r.x ∷ r.y ∷ r.size ∷ r.width ∷ [])
+-- 0 0, then place, size and width; or the refusal's two numbers
+abbrev numbers : Result PlacedLabel Refusal → List ℕ
+numbers (Ok l) = 0 ∷ 0 ∷ l.x ∷ l.y ∷ l.size ∷ l.width ∷ []
+numbers (Err why) = refusal_of (numbers_of why)
 
 -- 0 for the chart or 1 for the table, then from where to where
 abbrev spot : Place → List ℕ
 spot (chart a e) = 0 ∷ a ∷ e ∷ []
 spot (table a e) = 1 ∷ a ∷ e ∷ []
 
--- the same of a span
-abbrev span_spot : LabelSpan → List ℕ
-span_spot r = cond r.fixed 1 0 ∷ r.at ∷ (r.at + r.len) ∷ []
+-- the chart's start
+abbrev start : List ℕ
+start = 0 ∷ 0 ∷ 0 ∷ []
+
+-- the same of a span; refused, there is none
+abbrev span_spot : Result LabelSpan Refusal → List ℕ
+span_spot (Ok r) = cond r.fixed 1 0 ∷ r.at ∷ (r.at + r.len) ∷ []
+span_spot (Err why) = start
 
 -- the stand-in table; with its last byte changed; one byte shorter; `#0` to `#31` alone; nothing
 data Table : Type 0 where
@@ -64,7 +70,7 @@ data Case : Type 0 where
 
 abbrev agree : List ℕ → List ℕ → Labelled → List ℕ → List ℕ → List ℕ → Bool
 agree s t l ns ps w =
-    same (numbers (label_answer_of t l)) ns
+    same (numbers (placed_label_of t l)) ns
     && (same (spot (label_part_of s t l)) ps && (same (span_spot (label_span_of s t l)) ps && same (text_at s t (label_part_of s t l)) w))
 
 holds : Case → Bool
@@ -111,12 +117,9 @@ both = "010104000000020000c800"
 abbrev texts : String
 texts = "010206001400000003010161c8036f7574010162000000"
 
--- the numbers of a refusal, and its part
+-- the numbers of a refusal
 abbrev refused : ℕ → ℕ → List ℕ
-refused a b = a ∷ b ∷ 0 ∷ 0 ∷ 0 ∷ 0 ∷ []
-
-abbrev start : List ℕ
-start = 0 ∷ 0 ∷ 0 ∷ []
+refused a b = a ∷ b ∷ []
 
 cases : List Case
 cases =

@@ -1,12 +1,12 @@
 -- The reader: 'A reader of this profile goes left to right'.
-use Rattle.std.specs.Prelude.{Bool, true, false, cond, not, ◌&&◌, ◌||◌, List, [], ◌∷◌, ◌++◌, ℕ, suc, ◌+◌, ◌-◌, ◌*◌, eqb, leb, ltb, length, get_or}
+use Rattle.std.specs.Prelude.{Bool, true, false, cond, not, ◌&&◌, ◌||◌, List, [], ◌∷◌, ◌++◌, ℕ, suc, ◌+◌, ◌-◌, ◌*◌, eqb, leb, ltb, length, get_or, Option, Some, None, Result, Ok, Err}
+use Rattle.refusals.specs.declared.TextRefusal.{TextRefusal}
+use Rattle.refusals.specs.declared.TextRefusal.TheVariants.{NotProfile, LargeNumber, NoMove}
 use Rattle.path.specs.declared.reader.Phase.{Phase}
 use Rattle.path.specs.declared.reader.Phase.TheVariants.{Begin, Letter, Lettered, Digit, Number, Point, Halved, Stopped}
 use Rattle.path.specs.declared.reader.Act.{Act}
 use Rattle.path.specs.declared.reader.Act.TheVariants.{Letter as letter, Space as space, First as first, More as more, Point as point, Half as half, Stop as stop, Stay as stay}
 use Rattle.path.specs.declared.reader.Stand.{Stand}
-use Rattle.path.specs.declared.reader.Verdict.{Verdict}
-use Rattle.path.specs.declared.reader.Verdict.TheVariants.{Fine, Refused}
 use Rattle.path.specs.declared.drawn.Drawn.{Drawn}
 use Rattle.path.specs.declared.drawn.Drawn.TheVariants.{Move, Line, Cubic, Close}
 use Rattle.path.specs.Number.{limit}
@@ -47,11 +47,11 @@ act_of Digit v b = on_first b
 act_of Number v b = on_number v b
 act_of Point v b = cond (eqb b 53) half stop
 act_of Halved v b = on_space b
-act_of Stopped v b = stay
+act_of (Stopped p) v b = stay
 
 -- ---- how the reader stands after it
 abbrev pub stood : Stand
-stood = record { phase = Begin; left = 0; value = 0; begun = 0; over = false; large = 0; other = false; place = 0 }
+stood = record { phase = Begin; left = 0; value = 0; begun = 0; large = None; other = false }
 
 abbrev pub is_begin : Phase → Bool
 is_begin Begin = true
@@ -61,27 +61,31 @@ is_begin Digit = false
 is_begin Number = false
 is_begin Point = false
 is_begin Halved = false
-is_begin Stopped = false
+is_begin (Stopped p) = false
 
 -- a whole part with one more digit; past the limit it stays
 abbrev pub grown : ℕ → ℕ → ℕ
 grown v d = cond (leb v limit) (10 * v + d) v
 
--- 'A number is too large: the place of the first digit of the first such'
+-- 'A number is too large: the place of the first digit of the first such': the number that began at `at` is noted, if it is too large and none was noted before
+abbrev pub first_large : Bool → ℕ → Option ℕ → Option ℕ
+first_large too at (Some p) = Some p
+first_large too at None = cond too (Some at) None
+
 abbrev pub marked : Bool → Stand → Stand
-marked too s = record { phase = s.phase; left = s.left; value = s.value; begun = s.begun; over = too || s.over; large = cond s.over s.large (cond too s.begun s.large); other = s.other; place = s.place }
+marked too s = record { phase = s.phase; left = s.left; value = s.value; begun = s.begun; large = first_large too s.begun s.large; other = s.other }
 
 abbrev pub standing : Stand → Phase → Stand
-standing s p = record { phase = p; left = s.left; value = s.value; begun = s.begun; over = s.over; large = s.large; other = s.other; place = s.place }
+standing s p = record { phase = p; left = s.left; value = s.value; begun = s.begun; large = s.large; other = s.other }
 
 abbrev pub moved : Act → ℕ → Stand → Stand
-moved (letter b) at s = record { phase = Lettered; left = arity b; value = s.value; begun = s.begun; over = s.over; large = s.large; other = cond (is_begin s.phase) (not (eqb b 77)) s.other; place = s.place }
+moved (letter b) at s = record { phase = Lettered; left = arity b; value = s.value; begun = s.begun; large = s.large; other = cond (is_begin s.phase) (not (eqb b 77)) s.other }
 moved space at s = standing s (cond (eqb s.left 0) Letter Digit)
-moved (first d) at s = record { phase = Number; left = s.left - 1; value = d; begun = at; over = s.over; large = s.large; other = s.other; place = s.place }
-moved (more d) at s = marked (ltb limit (grown s.value d)) (record { phase = Number; left = s.left; value = grown s.value d; begun = s.begun; over = s.over; large = s.large; other = s.other; place = s.place })
+moved (first d) at s = record { phase = Number; left = s.left - 1; value = d; begun = at; large = s.large; other = s.other }
+moved (more d) at s = marked (ltb limit (grown s.value d)) (record { phase = Number; left = s.left; value = grown s.value d; begun = s.begun; large = s.large; other = s.other })
 moved point at s = standing s Point
 moved half at s = marked (leb limit s.value) (standing s Halved)
-moved stop at s = record { phase = Stopped; left = s.left; value = s.value; begun = s.begun; over = s.over; large = s.large; other = s.other; place = at }
+moved stop at s = standing s (Stopped at)
 moved stay at s = s
 
 -- ---- what is read: the segments so far, the latest first; of each its letter and its numbers in halves, the latest first
@@ -149,7 +153,7 @@ drawn_all (p ∷ ps) = drawn_all ps ++ (part_of p ∷ [])
 -- ---- the answer
 pub data Answer : Type 0 where
   segments : List Drawn → Answer
-  refused : ℕ → ℕ → Answer
+  refused : TextRefusal → Answer
 
 -- the text may end here
 abbrev pub ended : Phase → ℕ → Bool
@@ -160,30 +164,31 @@ ended Digit l = false
 ended Number l = eqb l 0
 ended Point l = false
 ended Halved l = eqb l 0
-ended Stopped l = false
+ended (Stopped p) l = false
 
-abbrev pub is_stopped : Phase → Bool
-is_stopped Begin = false
-is_stopped Letter = false
-is_stopped Lettered = false
-is_stopped Digit = false
-is_stopped Number = false
-is_stopped Point = false
-is_stopped Halved = false
-is_stopped Stopped = true
+-- 17: 'that byte's place, or the length if it breaks off'
+abbrev pub broken_at : ℕ → Phase → ℕ
+broken_at n Begin = n
+broken_at n Letter = n
+broken_at n Lettered = n
+broken_at n Digit = n
+broken_at n Number = n
+broken_at n Point = n
+broken_at n Halved = n
+broken_at n (Stopped p) = p
 
--- 17: 'that byte's place, or the length if it breaks off'; then 18; then 19
-abbrev pub verdict_of : ℕ → Stand → Verdict
-verdict_of n s =
-    cond (is_stopped s.phase) (Refused 17 s.place)
-    (cond (ended s.phase s.left)
-    (cond s.over (Refused 18 s.large)
-    (cond s.other (Refused 19 0) Fine))
-    (Refused 17 n))
+-- 18; then 19
+abbrev pub whole_verdict : Option ℕ → Bool → Result (Unit {0}) TextRefusal
+whole_verdict (Some p) other = Err (LargeNumber p)
+whole_verdict None other = cond other (Err NoMove) (Ok tt)
 
-abbrev pub given : Verdict → List Drawn → Answer
-given Fine ds = segments ds
-given (Refused n p) ds = refused n p
+-- 17 before them
+abbrev pub verdict_of : ℕ → Stand → Result (Unit {0}) TextRefusal
+verdict_of n s = cond (ended s.phase s.left) (whole_verdict s.large s.other) (Err (NotProfile (broken_at n s.phase)))
+
+abbrev pub given : Result (Unit {0}) TextRefusal → List Drawn → Answer
+given (Ok u) ds = segments ds
+given (Err r) ds = refused r
 
 abbrev pub answer_of : ℕ → Stand → List Drawn → Answer
 answer_of n s ds = given (verdict_of n s) ds

@@ -20,6 +20,7 @@ use Rattle.grid.specs.Columns.{first_moves, fold_from, average, columns}
 use Rattle.grid.specs.RenderNode.{drawn}
 use Rattle.grid.specs.RenderGrid.{Box, sheet_of, sheet}
 use Rattle.grid.specs.Sheeted.{Sheeted, ready, refusal, sheet_of_dag, sheeted}
+use Rattle.refusals.specs.Refusals.{numbers_of, text_numbers_of}
 use Rattle.path.specs.Reader.{Answer, segments, refused, read}
 
 pub data Case : Type 0 where
@@ -40,35 +41,35 @@ pub data Case : Type 0 where
 -- ---- the test of each
 abbrev is_sheet : Sheeted → ℕ → ℕ → ℕ → ℕ → Bool
 is_sheet (ready s) w h b c = eqb s.width w && eqb s.height h && eqb (length s.boxes) b && eqb s.cuts c
-is_sheet (refusal n p) w h b c = false
+is_sheet (refusal why) w h b c = false
 
 abbrev is_cut : Sheeted → ℕ → ℕ → Bool
 is_cut (ready s) b c = eqb (length s.boxes) b && eqb s.cuts c
-is_cut (refusal n p) b c = false
+is_cut (refusal why) b c = false
 
 abbrev are_columns : Sheeted → List ℕ → Bool
 are_columns (ready s) cs = same (map (λ (b : Box). b.column) s.boxes) cs
-are_columns (refusal n p) cs = false
+are_columns (refusal why) cs = false
 
 abbrev are_rows : Sheeted → List ℕ → Bool
 are_rows (ready s) rs = same (map (λ (b : Box). b.row) s.boxes) rs
-are_rows (refusal n p) rs = false
+are_rows (refusal why) rs = false
 
 abbrev has_sources : Graphed → ℕ → ℕ → Bool
 has_sources (cut d) p k = eqb (length (node_at d.graph p).sources) k
-has_sources (refused_graph n q) p k = false
+has_sources (refused_graph why) p k = false
 
 abbrev is_drawn : Sheeted → Bool
 is_drawn (ready s) = true
-is_drawn (refusal n p) = false
+is_drawn (refusal why) = false
 
 abbrev is_refused : Sheeted → ℕ → ℕ → Bool
 is_refused (ready s) n p = false
-is_refused (refusal m q) n p = eqb m n && eqb q p
+is_refused (refusal why) n p = eqb (numbers_of why).first n && eqb (numbers_of why).second p
 
 abbrev no_text : Answer → ℕ → ℕ → Bool
 no_text (segments ds) n p = false
-no_text (refused m q) n p = eqb m n && eqb q p
+no_text (refused r) n p = eqb (text_numbers_of r).first n && eqb (text_numbers_of r).second p
 
 unfoldable pub holds : Case → Bool
 holds (is s w h b c) = is_sheet (sheeted Strict (hex s) 0 0) w h b c

@@ -1,8 +1,8 @@
 -- What a writer leaves in the buffer that it is lent, and what it answers.
-use Rattle.std.specs.Prelude.{◌≡◌, cond, List, ℕ, ◌+◌, leb, length}
+use Rattle.std.specs.Prelude.{◌≡◌, cond, List, ℕ, ◌+◌, leb, length, Result, Ok, Err}
+use Rattle.refusals.specs.declared.TextRefusal.{TextRefusal}
+use Rattle.refusals.specs.declared.TextRefusal.TheVariants.{ShortBuffer}
 use Rattle.std.proofs.lemmas.List.Edits.{sets}
-use Rattle.path.specs.declared.Written.{Written}
-use Rattle.path.specs.declared.Written.TheVariants.{Done, Refused}
 
 -- 'Buffer bytes past the text keep their content': the bytes t from place `at` on, all others as they were (`put-parts` of proofs/Puts.antt)
 abbrev pub put : List ℕ → ℕ → List ℕ → List ℕ
@@ -18,5 +18,5 @@ abbrev pub placed : List ℕ → ℕ → List ℕ → List ℕ
 placed buf at t = cond (leb (at + length t) (length buf)) (put buf at t) buf
 
 -- 16: 'The text buffer is too short: the length needed' (from the place on)
-abbrev pub answered : List ℕ → ℕ → List ℕ → Written
-answered buf at t = cond (leb (at + length t) (length buf)) (Done (length t)) (Refused 16 (length t))
+abbrev pub answered : List ℕ → ℕ → List ℕ → Result ℕ TextRefusal
+answered buf at t = cond (leb (at + length t) (length buf)) (Ok (length t)) (Err (ShortBuffer (length t)))

@@ -3,38 +3,14 @@ ghost use Rattle.std.specs.Prelude.{◌≡◌, ◌+◌, ◌≤◌, length};
 ghost use Rattle.path.specs.Number.{digits, number_text};
 ghost use Rattle.path.specs.Writer.{IsPut};
 
-// How many digits n has, by comparisons alone.
+// How many digits n has.
 fn digits_len(n: u32) -> usize
     ensures { result ≡ length (digits n) }
 {
-    if n < 10 {
-        return 1;
+    match n.checked_ilog10() {
+        Some(power) => power as usize + 1,
+        None => 1,
     }
-    if n < 100 {
-        return 2;
-    }
-    if n < 1000 {
-        return 3;
-    }
-    if n < 10000 {
-        return 4;
-    }
-    if n < 100000 {
-        return 5;
-    }
-    if n < 1000000 {
-        return 6;
-    }
-    if n < 10000000 {
-        return 7;
-    }
-    if n < 100000000 {
-        return 8;
-    }
-    if n < 1000000000 {
-        return 9;
-    }
-    10
 }
 
 // The digits of n at a place, from the last to the first, with one division a turn.
@@ -48,10 +24,10 @@ fn put_digits(buf: &mut [u8], at: usize, n: u32) -> usize
     while 10 <= m {
         i -= 1;
         let q = m / 10;
-        buf[i] = 48 + (m - 10 * q) as u8;
+        buf[i] = b'0' + (m - 10 * q) as u8;
         m = q;
     }
-    buf[at] = 48 + m as u8;
+    buf[at] = b'0' + m as u8;
     e
 }
 
@@ -75,7 +51,7 @@ pub fn put_number(buf: &mut [u8], at: usize, h: u32) -> usize
     if h % 2 == 0 {
         return e;
     }
-    buf[e] = 46;
-    buf[e + 1] = 53;
+    buf[e] = b'.';
+    buf[e + 1] = b'5';
     e + 2
 }

@@ -1,11 +1,11 @@
 // A sheet's segments by number, and its text.
-ghost use Rattle.std.specs.Prelude.{true, cond, ◌≡◌, ◌+◌, ◌-◌, ◌/◌, ◌<◌, ◌≤◌, ltb, length};
+ghost use Rattle.std.specs.Prelude.{true, ◌≡◌, ◌+◌, ◌<◌, ◌≤◌, length};
 ghost use Rattle.grid.specs.Record.{box_near, curve_near, sound_of};
 ghost use Rattle.path.specs.Drawn.{InRange};
 ghost use Rattle.path.specs.Text.{text_of};
 ghost use Rattle.path.specs.Writer.{IsPut, put};
 ghost use Rattle.path.specs.Segments.{drawn_of};
-ghost use Rattle.path.specs.code.Strokes.{box_stroke, curve_stroke, IsStroke, stroke_of, next_text};
+ghost use Rattle.path.specs.code.Strokes.{box_stroke, curve_stroke, IsStroke, next_text};
 
 use crate::drawn::Drawn;
 use crate::stroke::{Stroke, drawn_of};
@@ -13,9 +13,9 @@ use crate::writer::{put_segment, segment_len};
 use grid::{BoxRecord, Curve, SheetRecord};
 
 // How many segments: five a box, two a curve.
-pub fn size_of(s: SheetRecord) -> usize
-    requires { sound_of s ≡ true }
-    ensures { result ≡ length (drawn_of s) }
+pub fn size_of(s: &SheetRecord) -> usize
+    requires { sound_of s.now ≡ true }
+    ensures { result ≡ length (drawn_of s.now) }
 {
     5 * (s.count as usize) + 2 * (s.drawn as usize)
 }
@@ -52,10 +52,10 @@ fn curve_stroke(x: u32, y: u32, c: Curve, k: usize) -> Stroke
 }
 
 // Segment k of a sheet.
-pub fn stroke_at(s: SheetRecord, k: usize) -> Stroke
-    requires s_value { sound_of s ≡ true }
-    requires k_in_bounds { k < length (drawn_of s) }
-    ensures { IsStroke (drawn_of s) k result }
+pub fn stroke_at(s: &SheetRecord, k: usize) -> Stroke
+    requires s_value { sound_of s.now ≡ true }
+    requires k_in_bounds { k < length (drawn_of s.now) }
+    ensures { IsStroke (drawn_of s.now) k result }
 {
     let n = 5 * (s.count as usize);
     if k < n {
@@ -65,31 +65,6 @@ pub fn stroke_at(s: SheetRecord, k: usize) -> Stroke
     let j = k - n;
     let c = s.curves[j / 2];
     curve_stroke(s.x, s.y, c, j % 2)
-}
-
-// The box of segment k, where the curves begin with segment m; of a curve's segment 0.
-fn box_at(k: usize, m: usize) -> usize
-    ensures { result ≡ cond (ltb k m) (k / 5) 0 }
-{
-    if k < m { k / 5 } else { 0 }
-}
-
-// Its curve; of a box's segment 0.
-fn curve_at(k: usize, m: usize) -> usize
-    ensures { result ≡ cond (ltb k m) 0 ((k - m) / 2) }
-{
-    if k < m { 0 } else { (k - m) / 2 }
-}
-
-// Segment k, of the box b or of the curve c. (A loop over the segments that handed on the sheet would copy it each time.)
-fn stroke_of(x: u32, y: u32, m: usize, b: BoxRecord, c: Curve, k: usize) -> Stroke
-    requires { (k < m → box_near x y b ≡ true) × (m ≤ k → curve_near x y c ≡ true) }
-    ensures { result ≡ stroke_of x y m b c k }
-{
-    if k < m {
-        return box_stroke(x, y, b, k % 5);
-    }
-    curve_stroke(x, y, c, (k - m) % 2)
 }
 
 // How many bytes segment k takes, with the space before it, if one stands before it.
@@ -105,22 +80,13 @@ fn next_len(k: usize, d: Drawn) -> usize
 }
 
 // How many bytes the text takes.
-pub fn text_len(s: SheetRecord) -> usize
-    requires { sound_of s ≡ true }
-    ensures { result ≡ length (text_of (drawn_of s)) }
+pub fn text_len(s: &SheetRecord) -> usize
+    requires { sound_of s.now ≡ true }
+    ensures { result ≡ length (text_of (drawn_of s.now)) }
 {
-    let n = size_of(s);
-    let m = 5 * (s.count as usize);
-    let mut e = 0usize;
-    let mut k = 0usize;
-    while k < n {
-        let i = box_at(k, m);
-        let j = curve_at(k, m);
-        let b = s.boxes[i];
-        let c = s.curves[j];
-        let d = drawn_of(stroke_of(s.x, s.y, m, b, c, k));
-        e += next_len(k, d);
-        k += 1;
+    let mut e = 0;
+    for k in 0..size_of(s) {
+        e += next_len(k, drawn_of(stroke_at(s, k)));
     }
     e
 }
@@ -133,27 +99,18 @@ fn put_next(buf: &mut [u8], at: usize, k: usize, d: Drawn) -> usize
     if k == 0 {
         return put_segment(buf, at, d);
     }
-    buf[at] = 32;
+    buf[at] = b' ';
     put_segment(buf, at + 1, d)
 }
 
 // The text at the start of a buffer that it fits.
-pub fn put_text(buf: &mut [u8], s: SheetRecord)
-    requires s_value { sound_of s ≡ true }
-    requires s_in_bounds { length (text_of (drawn_of s)) ≤ length buf.old }
-    ensures { buf.new ≡ put buf.old 0 (text_of (drawn_of s)) }
+pub fn put_text(buf: &mut [u8], s: &SheetRecord)
+    requires s_value { sound_of s.now ≡ true }
+    requires s_in_bounds { length (text_of (drawn_of s.now)) ≤ length buf.old }
+    ensures { buf.new ≡ put buf.old 0 (text_of (drawn_of s.now)) }
 {
-    let n = size_of(s);
-    let m = 5 * (s.count as usize);
-    let mut e = 0usize;
-    let mut k = 0usize;
-    while k < n {
-        let i = box_at(k, m);
-        let j = curve_at(k, m);
-        let b = s.boxes[i];
-        let c = s.curves[j];
-        let d = drawn_of(stroke_of(s.x, s.y, m, b, c, k));
-        e = put_next(&mut *buf, e, k, d);
-        k += 1;
+    let mut e = 0;
+    for k in 0..size_of(s) {
+        e = put_next(&mut *buf, e, k, drawn_of(stroke_at(s, k)));
     }
 }

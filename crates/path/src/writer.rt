@@ -31,7 +31,7 @@ fn put_word(buf: &mut [u8], at: usize, h: u32) -> usize
     requires { at + length (32 ∷ number_text h) ≤ length buf.old }
     ensures { IsPut buf.old at (32 ∷ number_text h) buf.new result }
 {
-    buf[at] = 32;
+    buf[at] = b' ';
     put_number(buf, at + 1, h)
 }
 
@@ -59,20 +59,16 @@ pub fn put_segment(buf: &mut [u8], at: usize, d: Drawn) -> usize
     ensures { IsPut buf.old at (segment_text d) buf.new result }
 {
     match d {
-        Drawn::Move(x, y) => {
-            return put_to(buf, at, 77, x, y);
-        }
-        Drawn::Line(x, y) => {
-            return put_to(buf, at, 76, x, y);
-        }
+        Drawn::Move(x, y) => put_to(buf, at, b'M', x, y),
+        Drawn::Line(x, y) => put_to(buf, at, b'L', x, y),
         Drawn::Cubic(a, b, c, d, x, y) => {
-            let e = put_to(&mut *buf, at, 67, a, b);
+            let e = put_to(&mut *buf, at, b'C', a, b);
             let f = put_pair(&mut *buf, e, c, d);
-            return put_pair(buf, f, x, y);
+            put_pair(buf, f, x, y)
         }
         Drawn::Close => {
-            buf[at] = 90;
-            return at + 1;
+            buf[at] = b'Z';
+            at + 1
         }
     }
 }

@@ -4,123 +4,162 @@ use Prim.Native.Nat.{ℕ, zero, suc, ◌+◌, ◌-◌, ◌≤◌, ◌<◌}
 use native.Mathlib.Omega.{arith}
 use native.Mathlib.Numerals.{add-one}
 use mathlib.Core.Path.{◌≡◌, refl, ap, sym, ◌∙◌}
-use mathlib.Core.Bool.{Bool, true, false, cond, ◌||◌}
+use mathlib.Core.Logic.{◌⊎◌, inl, inr}
+use mathlib.Core.Bool.{Bool, true, false, cond, ◌&&◌, ◌||◌}
 use mathlib.Core.List.{List, [], ◌∷◌, ◌++◌, append_assoc, append-nil}
-use lib.Dec.{eqb}
-use lib.ListN.{length, get_or, set, take, drop, replicate, length-set}
-use lib.Seq.{take-suc}
+use lib.Dec.{eqb, ltb}
+use lib.ListN.{length, get_or, take, drop, get_or-append}
+use lib.Seq.{take-suc, take_all, drop-cons, get_or-append_seam}
 use borrow.Author.Tests.{eq-eqb, ne_eqb, lt-ltb, le-ltb}
+use Rattle.std.specs.Prelude.{Option, Some, None}
+use Rattle.std.specs.List.{list_any, find, range_with_len}
+use Rattle.std.specs.Option.{is_none, unwrap_or, option_map}
+use Rattle.std.proofs.lemmas.Iterator.Adapters.{option_map_id}
 use Rattle.laws.specs.Bytes.{all_of}
 use Rattle.laws.specs.Each.{each}
 use Rattle.laws.specs.Lists.{has, one, keep, padded, stack_of}
 use Rattle.laws.proofs.Each.{next}
-use Rattle.laws.proofs.Lists.{one_more, drop-up, drop_past, length-one, padded-set, take-padded, stack_last}
+use Rattle.laws.proofs.Lists.{one_more, length-one, padded-set, take-padded}
+use Rattle.laws.proofs.Tests.{less?}
+use Rattle.tables.specs.declared.Table.{Table}
+use Rattle.tables.specs.Tables.{pushed_if}
 use Rattle.walks.specs.Walks.{up_to, walk}
 use Rattle.walks.proofs.Few.{has-append}
-use Rattle.graph.specs.Ends.{targets_of}
+use Rattle.graph.specs.declared.Lead.{Lead}
+use Rattle.graph.specs.Ends.{no_lead, targets_of}
 use Rattle.signal.specs.Signal.{Sources, is_left, free, lowest, put, listed, first_out, behind, back, back_from, signalled_by}
-use Rattle.chart.specs.declared.Answer.TheVariants.{Ready, Refused}
-use Rattle.signal.specs.declared.Nodes.{Nodes}
-use Rattle.signal.specs.Outcome.{outcome_of}
-use Rattle.signal.specs.code.Nodes.{sources_of, IsOut, list_of}
+use Rattle.std.specs.Prelude.{Result, Ok, Err}
+use Rattle.signal.specs.declared.NoOrder.TheVariants.{Cycle}
+use Rattle.signal.specs.Outcome.{nodes_held, answer_of}
+use Rattle.signal.specs.code.Nodes.{out_of, lowest_of}
+use Rattle.signal.proofs.Lowest.{is_lowest}
 
--- ---- the first n of an array, from k on: the node at k is p, or another
-module _ (xs : List ℕ) (n : ℕ) (long : n ≤ length xs) (p k : ℕ) where
-  pub in_here : k < n → get_or xs k 0 ≡ p → has p (drop k (take n xs)) ≡ true
-  in_here h e = rw (drop-up 0 n xs long k h, eq-eqb (get_or xs k 0) p e)
+-- ---- what a slice's own search finds
+pub has-any : (p : ℕ) (xs : List ℕ) → list_any (λ y. eqb y p) xs ≡ has p xs
+has-any p [] = refl
+has-any p (x ∷ xs) = ap (λ (b : Bool). eqb x p || b) (has-any p xs)
 
-  pub in_next : k < n → (get_or xs k 0 ≡ p → ⊥) → has p (drop k (take n xs)) ≡ has p (drop (k + 1) (take n xs))
-  in_next h e = rw (drop-up 0 n xs long k h, ne_eqb (get_or xs k 0) p e)
+find_from : (test : ℕ → Bool) (k p : ℕ) → find test (range_with_len p k) ≡ cond (ltb (lowest k test p) (p + k)) (Some (lowest k test p)) None
+find_from test zero p = let h : p + 0 ≤ p = omega arith in rw (le-ltb p (p + 0) h)
+find_from test (suc k) p = go (test p) (find_from test k (suc p))
+  where
+    h : p < p + suc k
+    h = omega arith
 
-  pub in_none : n ≤ k → has p (drop k (take n xs)) ≡ false
-  in_none h = rw (drop_past n xs long k h)
+    e : suc p + k ≡ p + suc k
+    e = omega arith
 
--- ---- the sources of p, from record k on
-abbrev rest : List ℕ → List ℕ → ℕ → ℕ → ℕ → List ℕ
-rest owner to count p k = targets_of p (drop k (take count owner)) (drop k (take count to))
+    go : (b : Bool) → find test (range_with_len (suc p) k) ≡ cond (ltb (lowest k test (suc p)) (suc p + k)) (Some (lowest k test (suc p))) None → cond b (Some p) (find test (range_with_len (p + 1) k)) ≡ cond (ltb (cond b p (lowest k test (suc p))) (p + suc k)) (Some (cond b p (lowest k test (suc p)))) None
+    go true i = rw (lt-ltb p (p + suc k) h)
+    go false i = rw (add-one p, i, e)
 
--- they answer for all
-pub record Rest (owner to : List ℕ) (count : ℕ) (done : List ℕ) (p k : ℕ) : Type 0 where
-  pub within : k ≤ count
-  pub all : all_of (λ q. has q done) (sources_of owner to count p) ≡ all_of (λ q. has q done) (rest owner to count p k)
-  pub first : first_out done (sources_of owner to count p) ≡ first_out done (rest owner to count p k)
+pub found-lowest : (test : ℕ → Bool) (n : ℕ) (r : Option ℕ) → option_map (λ x. x) r ≡ find test (range_with_len 0 n) → r ≡ lowest_of n test
+found-lowest test n r e =
+    let z : 0 + n ≡ n = omega arith in
+    sym (option_map_id r) ∙ e ∙ find_from test n 0 ∙ ap (λ (k : ℕ). cond (ltb (lowest n test 0) k) (Some (lowest n test 0)) None) z
 
-pub rest_all : (owner to : List ℕ) (count : ℕ) (done : List ℕ) (p : ℕ) → Rest owner to count done p 0
-rest_all owner to count done p = record { within = omega arith; all = refl; first = refl }
+pub lowest_or : (test : ℕ → Bool) (n : ℕ) → unwrap_or (lowest_of n test) n ≡ lowest n test 0
+lowest_or test n = go (less? (lowest n test 0) n)
+  where
+    go : (lowest n test 0 < n) ⊎ (n ≤ lowest n test 0) → unwrap_or (lowest_of n test) n ≡ lowest n test 0
+    go (inl h) = rw (lt-ltb (lowest n test 0) n h)
+    go (inr h) = let w = (is_lowest test n 0).within in rw (le-ltb (lowest n test 0) n h) (omega arith)
 
-module _ (owner to : List ℕ) (count : ℕ) (long : count ≤ length owner) (wide : count ≤ length to) (done : List ℕ) (p k : ℕ) (r : Rest owner to count done p k) where
-  module _ (h : k < count) where
-    rest-next : rest owner to count p k ≡ keep (eqb (get_or owner k 0) p) (get_or to k 0) (rest owner to count p (k + 1))
-    rest-next = rw (drop-up 0 count owner long k h, drop-up 0 count to wide k h)
+-- ---- the leads from number k on
+module _ (done : List ℕ) (p : ℕ) (es : List Lead) (k : ℕ) (h : k < length es) where
+  abbrev lead : Lead
+  lead = get_or es k no_lead
 
-    -- record k is a source of p, which is listed or not; or another node's
-    module _ (own : get_or owner k 0 ≡ p) where
-      rest-own : rest owner to count p k ≡ get_or to k 0 ∷ rest owner to count p (k + 1)
-      rest-own = rest-next ∙ rw (eq-eqb (get_or owner k 0) p own)
+  left : targets_of p (drop k es) ≡ keep (eqb lead.owner p) lead.to (targets_of p (drop (k + 1) es))
+  left = ap (targets_of p) (drop-cons es k no_lead h) ∙ ap (λ (j : ℕ). keep (eqb lead.owner p) lead.to (targets_of p (drop j es))) (sym (add-one k))
 
-      pub out_here : has (get_or to k 0) done ≡ false → IsOut owner to count done p k
-      out_here e =
-          let n : (k ≡ count → ⊥) = λ i. omega arith in
-          record { all = r.all ∙ rw (rest-own, e, ne_eqb k count n); first = r.first ∙ rw (rest-own, e, lt-ltb k count h) }
+  pub out_here : lead.owner ≡ p → has lead.to done ≡ false → out_of done (targets_of p (drop k es)) ≡ Some lead.to
+  out_here o e = rw (left, eq-eqb lead.owner p o, e)
 
-      pub out_next : has (get_or to k 0) done ≡ true → Rest owner to count done p (k + 1)
-      out_next e = record { within = omega arith; all = r.all ∙ rw (rest-own, e); first = r.first ∙ rw (rest-own, e) }
+  pub out_next : lead.owner ≡ p → has lead.to done ≡ true → out_of done (targets_of p (drop k es)) ≡ out_of done (targets_of p (drop (k + 1) es))
+  out_next o e = rw (left, eq-eqb lead.owner p o, e)
 
-    pub out_other : (get_or owner k 0 ≡ p → ⊥) → Rest owner to count done p (k + 1)
-    out_other n =
-        let e : rest owner to count p k ≡ rest owner to count p (k + 1) = rest-next ∙ rw (ne_eqb (get_or owner k 0) p n) in
-        record { within = omega arith; all = r.all ∙ rw e; first = r.first ∙ rw e }
+  pub out_other : (lead.owner ≡ p → ⊥) → out_of done (targets_of p (drop k es)) ≡ out_of done (targets_of p (drop (k + 1) es))
+  out_other o = rw (left, ne_eqb lead.owner p o)
 
-  pub out_none : count ≤ k → IsOut owner to count done p count
-  out_none h =
-      let e : rest owner to count p k ≡ [] = rw (drop_past count owner long k h) in
-      let l : count ≤ count = omega arith in
-      record { all = r.all ∙ rw (e, eq-eqb count count refl); first = r.first ∙ rw (e, le-ltb count count l) }
+-- ---- the first that is not listed, or each is
+pub out-all : (done qs : List ℕ) → all_of (λ q. has q done) qs ≡ is_none (out_of done qs)
+out-all done [] = refl
+out-all done (q ∷ qs) = go (has q done) (out-all done qs)
+  where
+    go : (b : Bool) → all_of (λ r. has r done) qs ≡ is_none (out_of done qs) → (b && all_of (λ r. has r done) qs) ≡ is_none (cond b (out_of done qs) (Some q))
+    go true i = i
+    go false i = refl
 
--- ---- p is free, or not
-pub free-listed : (src : Sources) (done : List ℕ) (p : ℕ) → has p done ≡ true → free src done p ≡ false
-free-listed src done p e = rw e
+pub out-first : (done qs : List ℕ) → first_out done qs ≡ unwrap_or (out_of done qs) 0
+out-first done [] = refl
+out-first done (q ∷ qs) = go (has q done) (out-first done qs)
+  where
+    go : (b : Bool) → first_out done qs ≡ unwrap_or (out_of done qs) 0 → cond b (first_out done qs) q ≡ unwrap_or (cond b (out_of done qs) (Some q)) 0
+    go true i = i
+    go false i = refl
 
-pub free-by : (src : Sources) (done : List ℕ) (p : ℕ) (b : Bool) → has p done ≡ false → all_of (λ q. has q done) (src p) ≡ b → free src done p ≡ b
-free-by src done p b e f = rw e f
+-- the lowest that passes was found, or none does
+pub found-some : (test : ℕ → Bool) (n p : ℕ) → lowest_of n test ≡ Some p → (p ≡ lowest n test 0) × (p < n)
+found-some test n p e = go (less? (lowest n test 0) n)
+  where
+    go : (lowest n test 0 < n) ⊎ (n ≤ lowest n test 0) → (p ≡ lowest n test 0) × (p < n)
+    go (inl h) =
+        let i : lowest_of n test ≡ Some (lowest n test 0) = rw (lt-ltb (lowest n test 0) n h) in
+        let j : p ≡ lowest n test 0 = cc in
+        (j, omega arith)
+    go (inr h) = let i : lowest_of n test ≡ None = rw (le-ltb (lowest n test 0) n h) in absurd (cc)
+
+pub found-none : (test : ℕ → Bool) (n : ℕ) → lowest_of n test ≡ None → n ≤ lowest n test 0
+found-none test n e = go (less? (lowest n test 0) n)
+  where
+    go : (lowest n test 0 < n) ⊎ (n ≤ lowest n test 0) → n ≤ lowest n test 0
+    go (inl h) = let i : lowest_of n test ≡ Some (lowest n test 0) = rw (lt-ltb (lowest n test 0) n h) in absurd (cc)
+    go (inr h) = h
+
+-- ---- a table that holds a list
+pub held_list : (t : Table ℕ 32) (l : List ℕ) → t ≡ nodes_held l → length l ≤ 32 → take t.count t.items ≡ l
+held_list t l e h = rw e (take-padded 32 0 l h)
+
+-- one item more
+pub put_list : (l : List ℕ) (x : ℕ) (t u : Table ℕ 32) (r : Bool) → t ≡ nodes_held l → length l < 32 → r ≡ ltb t.count 32 → u ≡ pushed_if r t x → u ≡ nodes_held (l ++ one x)
+put_list l x t u r e h b p = rw (p, b, e, lt-ltb (length l) 32 h) (cc (padded-set 32 0 l x, length-one l x))
 
 -- ---- a path cut at q: acc has been written, and k nodes are left to look at
-pub record Cut (path : List ℕ) (depth q : ℕ) (nodes : List ℕ) (count k : ℕ) : Type 0 where
+pub record Cut (path : List ℕ) (q : ℕ) (nodes : Table ℕ 32) (k : ℕ) : Type 0 where
   pub acc : List ℕ
-  pub held : nodes ≡ padded 32 0 acc
-  pub long : count ≡ length acc
-  pub sum : count + k ≡ depth
-  pub whole : acc ++ up_to q (stack_of 0 path k) ≡ up_to q (stack_of 0 path depth)
+  pub held : nodes ≡ nodes_held acc
+  pub sum : length acc + k ≡ length path
+  pub whole : acc ++ up_to q (stack_of 0 path k) ≡ up_to q (stack_of 0 path (length path))
 
-module _ (path : List ℕ) (depth q : ℕ) (nodes : List ℕ) (count k : ℕ) (c : Cut path depth q nodes count k) where
-  pub cut-end : k ≡ 0 → (record { count = count; nodes = nodes }) ≡ list_of (up_to q (stack_of 0 path depth))
+pub cut-first : (path : List ℕ) (q : ℕ) (nodes : Table ℕ 32) → nodes ≡ nodes_held [] → Cut path q nodes (length path)
+cut-first path q nodes e = record { acc = []; held = e; sum = omega arith; whole = refl }
+
+module _ (path : List ℕ) (few : length path ≤ 32) (q : ℕ) (nodes : Table ℕ 32) (k : ℕ) (c : Cut path q nodes k) where
+  pub cut-end : k ≡ 0 → (nodes ≡ nodes_held (up_to q (stack_of 0 path (length path)))) × (nodes.count ≤ 32)
   cut-end e =
-      let z : c.acc ≡ up_to q (stack_of 0 path depth) = sym (append-nil c.acc) ∙ ap (λ (j : ℕ). c.acc ++ up_to q (stack_of 0 path j)) (sym e) ∙ c.whole in
-      rw (c.held, c.long, z)
+      let z : c.acc ≡ up_to q (stack_of 0 path (length path)) = sym (append-nil c.acc) ∙ ap (λ (j : ℕ). c.acc ++ up_to q (stack_of 0 path j)) (sym e) ∙ c.whole in
+      (c.held ∙ ap nodes_held z, rw c.held (omega (arith, c.sum)))
 
-  module _ (pos : 0 < k) where
+  module _ (pos : 0 < k) (next : Table ℕ 32) (r : Bool) (b : r ≡ ltb nodes.count 32) (w : next ≡ pushed_if r nodes (get_or path (k - 1) 0)) where
     abbrev x : ℕ
     x = get_or path (k - 1) 0
 
-    stored : set nodes count x ≡ padded 32 0 (c.acc ++ one x)
-    stored = rw (c.held, c.long) (padded-set 32 0 c.acc x)
+    stored : next ≡ nodes_held (c.acc ++ one x)
+    stored = put_list c.acc x nodes next r c.held (omega (arith, c.sum)) b w
 
-    grown : count + 1 ≡ length (c.acc ++ one x)
-    grown = omega (arith, length-one c.acc x, c.long)
+    step : (t : Bool) → eqb x q ≡ t → c.acc ++ (x ∷ cond t [] (up_to q (stack_of 0 path (k - 1)))) ≡ up_to q (stack_of 0 path (length path))
+    step t e = ap (λ (u : Bool). c.acc ++ (x ∷ cond u [] (up_to q (stack_of 0 path (k - 1))))) (sym e) ∙ sym (ap (λ (l : List ℕ). c.acc ++ up_to q l) (one_more (stack_of 0 path) k pos)) ∙ c.whole
 
-    step : (b : Bool) → eqb x q ≡ b → c.acc ++ (x ∷ cond b [] (up_to q (stack_of 0 path (k - 1)))) ≡ up_to q (stack_of 0 path depth)
-    step b e = ap (λ (t : Bool). c.acc ++ (x ∷ cond t [] (up_to q (stack_of 0 path (k - 1))))) (sym e) ∙ sym (ap (λ (l : List ℕ). c.acc ++ up_to q l) (one_more (stack_of 0 path) k pos)) ∙ c.whole
+    pub cut-here : x ≡ q → (next ≡ nodes_held (up_to q (stack_of 0 path (length path)))) × (next.count ≤ 32)
+    cut-here e = (stored ∙ ap nodes_held (step true (eq-eqb x q e)), rw stored (omega (arith, length-one c.acc x, c.sum)))
 
-    pub cut-here : x ≡ q → (record { count = count + 1; nodes = set nodes count x }) ≡ list_of (up_to q (stack_of 0 path depth))
-    cut-here e = rw (stored, grown, step true (eq-eqb x q e))
-
-    pub cut-next : (x ≡ q → ⊥) → Cut path depth q (set nodes count x) (count + 1) (k - 1)
+    pub cut-next : (x ≡ q → ⊥) → Cut path q next (k - 1)
     cut-next n =
         record {
           acc = c.acc ++ one x;
           held = stored;
-          long = grown;
-          sum = omega (arith, c.sum);
+          sum = omega (arith, length-one c.acc x, c.sum);
           whole = append_assoc c.acc (one x) (up_to q (stack_of 0 path (k - 1))) ∙ step false (ne_eqb x q n);
         }
 
@@ -130,38 +169,51 @@ module _ (n : ℕ) (src : Sources) (i : ℕ) where
   unfolding listed
   listed_next = next [] (λ k done. put n done (lowest n (free src done) 0)) i
 
-  pub listed-put : (p : ℕ) → p ≡ lowest n (free src (listed n src i)) 0 → p < n → listed n src (i + 1) ≡ listed n src i ++ one p
+  listed-put : (p : ℕ) → p ≡ lowest n (free src (listed n src i)) 0 → p < n → listed n src (i + 1) ≡ listed n src i ++ one p
   listed-put p e h = listed_next ∙ rw (← e, lt-ltb p n h)
 
-  listed-stays : (p : ℕ) → p ≡ lowest n (free src (listed n src i)) 0 → n ≤ p → listed n src (i + 1) ≡ listed n src i
-  listed-stays p e h = listed_next ∙ rw (← e, le-ltb p n h)
+  listed-stays : n ≤ lowest n (free src (listed n src i)) 0 → listed n src (i + 1) ≡ listed n src i
+  listed-stays h = listed_next ∙ rw (le-ltb (lowest n (free src (listed n src i)) 0) n h)
 
 -- where none is free after i turns, no later turn lists one
-listed-stuck : (more n : ℕ) (src : Sources) (i p : ℕ) → p ≡ lowest n (free src (listed n src i)) 0 → n ≤ p → listed n src (i + more) ≡ listed n src i
-listed-stuck zero n src i p e h = let z : i + 0 ≡ i = omega arith in ap (listed n src) z
-listed-stuck (suc more) n src i p e h =
+listed-stuck : (more n : ℕ) (src : Sources) (i : ℕ) → n ≤ lowest n (free src (listed n src i)) 0 → listed n src (i + more) ≡ listed n src i
+listed-stuck zero n src i h = let z : i + 0 ≡ i = omega arith in ap (listed n src) z
+listed-stuck (suc more) n src i h =
     let z : i + suc more ≡ i + more + 1 = omega arith in
-    let r = listed-stuck more n src i p e h in
-    ap (listed n src) z ∙ listed-stays n src (i + more) p (e ∙ ap (λ (d : List ℕ). lowest n (free src d) 0) (sym r)) h ∙ r
+    let r = listed-stuck more n src i h in
+    ap (listed n src) z ∙ listed-stays n src (i + more) (rw r h) ∙ r
 
-pub listed-all : (n : ℕ) (src : Sources) (i p : ℕ) → i ≤ n → p ≡ lowest n (free src (listed n src i)) 0 → n ≤ p → listed n src n ≡ listed n src i
-listed-all n src i p l e h = let z : n ≡ i + (n - i) = omega arith in ap (listed n src) z ∙ listed-stuck (n - i) n src i p e h
+-- after i turns
+pub record Lists (n : ℕ) (src : Sources) (nodes : Table ℕ 32) (i : ℕ) : Type 0 where
+  pub held : nodes ≡ nodes_held (listed n src i)
+  pub long : length (listed n src i) ≡ i
 
--- the array holds the list
-pub record Holds (nodes : List ℕ) (done : ℕ) (l : List ℕ) : Type 0 where
-  pub held : nodes ≡ padded 32 0 l
-  pub long : done ≡ length l
+pub lists-none : (n : ℕ) (src : Sources) (nodes : Table ℕ 32) → nodes ≡ nodes_held [] → Lists n src nodes 0
+unfolding listed each
+lists-none n src nodes e = record { held = e; long = refl }
 
-pub held_list : (nodes : List ℕ) (done : ℕ) (l : List ℕ) → Holds nodes done l → done ≤ 32 → take done nodes ≡ l
-held_list nodes done l h few =
-    let m : length l ≤ 32 = omega (arith, h.long) in
-    rw (h.held, h.long) (take-padded 32 0 l m)
+module _ (n : ℕ) (src : Sources) (nodes : Table ℕ 32) (i : ℕ) (l : Lists n src nodes i) (few : n ≤ 32) where
+  pub lists-end : n ≡ i → (nodes ≡ nodes_held (listed n src n)) × (nodes.count ≤ 32)
+  lists-end e = (l.held ∙ ap (λ k. nodes_held (listed n src k)) (sym e), rw l.held (omega (arith, l.long)))
 
-pub held_one : (nodes : List ℕ) (done : ℕ) (l m : List ℕ) (p : ℕ) → Holds nodes done l → m ≡ l ++ one p → Holds (set nodes done p) (done + 1) m
-held_one nodes done l m p h e = record { held = rw (h.held, h.long, e) (padded-set 32 0 l p); long = rw e (omega (arith, h.long, length-one l p)) }
+  module _ (h : i < n) (r : Option ℕ) (e : r ≡ lowest_of n (free src (take nodes.count nodes.items))) where
+    found : r ≡ lowest_of n (free src (listed n src i))
+    found = e ∙ ap (λ d. lowest_of n (free src d)) (held_list nodes (listed n src i) l.held (omega (arith, l.long)))
 
-pub held_whole : (nodes : List ℕ) (done : ℕ) (l m : List ℕ) → Holds nodes done l → m ≡ l → (record { count = done; nodes = nodes }) ≡ list_of m
-held_whole nodes done l m h e = rw (h.held, h.long, e)
+    pub lists-put : (p : ℕ) → r ≡ Some p → (next : Table ℕ 32) (b : Bool) → b ≡ ltb nodes.count 32 → next ≡ pushed_if b nodes p → Lists n src next (i + 1)
+    lists-put p s next b f w =
+        let q = found-some (free src (listed n src i)) n p (sym found ∙ s) in
+        let m = listed-put n src i p q.0 q.1 in
+        record {
+          held = put_list (listed n src i) p nodes next b l.held (omega (arith, l.long)) f w ∙ ap nodes_held (sym m);
+          long = rw m (omega (arith, length-one (listed n src i) p, l.long));
+        }
+
+    pub lists-stuck : r ≡ None → (nodes ≡ nodes_held (listed n src n)) × (nodes.count ≤ 32)
+    lists-stuck s =
+        let z : n ≡ i + (n - i) = omega arith in
+        let m : listed n src n ≡ listed n src i = ap (listed n src) z ∙ listed-stuck (n - i) n src i (found-none (free src (listed n src i)) n (sym found ∙ s)) in
+        (l.held ∙ ap nodes_held (sym m), rw l.held (omega (arith, l.long)))
 
 -- ---- back along a path
 or_swap : (a b : Bool) → (a || (b || false)) ≡ (b || a)
@@ -176,75 +228,88 @@ stack_has q path (suc d) h =
     let l : d < length path = omega arith in
     sym (ap (has q) (take-suc path d 0 l) ∙ has-append q (take d path) (one (get_or path d 0)) ∙ or_swap (has q (take d path)) (eqb (get_or path d 0) q) ∙ ap (λ (b : Bool). eqb (get_or path d 0) q || b) (sym (stack_has q path d (omega arith))))
 
-pub record Back (src : Sources) (done : List ℕ) (n : ℕ) (path : List ℕ) (depth q : ℕ) : Type 0 where
-  pub long : length path ≡ 32
-  pub room : depth ≤ 32
-  pub next : q ≡ back src done (stack_of 0 path depth)
-  pub whole : walk (back src done) (n - depth) (stack_of 0 path depth) ≡ back_from n src done
+-- the path, the last first
+abbrev pub stack : List ℕ → List ℕ
+stack path = stack_of 0 path (length path)
 
-module _ (src : Sources) (done : List ℕ) (n : ℕ) (path : List ℕ) (depth q : ℕ) (b : Back src done n path depth q) where
-  pub back_end : n ≤ depth → up_to q (stack_of 0 path depth) ≡ back_from n src done
+has-stack : (q : ℕ) (path : List ℕ) → has q (stack path) ≡ has q path
+has-stack q path = stack_has q path (length path) (omega arith) ∙ ap (has q) (take_all (length path) path (omega arith))
+
+stack-front : (path more : List ℕ) (d : ℕ) → d ≤ length path → stack_of 0 (path ++ more) d ≡ stack_of 0 path d
+stack-front path more zero h = refl
+stack-front path more (suc d) h = cc (get_or-append path more 0 d (omega arith), stack-front path more d (omega arith))
+
+stack-one : (path : List ℕ) (q : ℕ) → stack (path ++ one q) ≡ q ∷ stack path
+stack-one path q =
+    ap (stack_of 0 (path ++ one q)) (length-one path q ∙ add-one (length path))
+    ∙ cc (get_or-append_seam path q [] 0, stack-front path (one q) (length path) (omega arith))
+
+-- n - depth steps are left
+pub record Back (src : Sources) (done : List ℕ) (n : ℕ) (nodes : Table ℕ 32) (depth q : ℕ) : Type 0 where
+  pub path : List ℕ
+  pub held : nodes ≡ nodes_held path
+  pub long : length path ≡ depth
+  pub room : depth ≤ 32
+  pub next : q ≡ back src done (stack path)
+  pub whole : walk (back src done) (n - depth) (stack path) ≡ back_from n src done
+
+module _ (src : Sources) (done : List ℕ) (n : ℕ) (nodes : Table ℕ 32) (depth q : ℕ) (b : Back src done n nodes depth q) where
+  pub back-path : take nodes.count nodes.items ≡ b.path
+  back-path = held_list nodes b.path b.held (omega (arith, b.long, b.room))
+
+  pub back_end : n ≤ depth → up_to q (stack b.path) ≡ back_from n src done
   unfolding walk
   back_end h =
       let e : 0 ≡ n - depth = omega arith in
-      rw b.next (ap (λ (k : ℕ). walk (back src done) k (stack_of 0 path depth)) e) ∙ b.whole
+      rw b.next (ap (λ (k : ℕ). walk (back src done) k (stack b.path)) e) ∙ b.whole
 
   module _ (h : depth < n) where
-    step_by : (t : Bool) → has q (take depth path) ≡ t → cond t (up_to q (stack_of 0 path depth)) (walk (back src done) (n - (depth + 1)) (q ∷ stack_of 0 path depth)) ≡ back_from n src done
+    step_by : (t : Bool) → has q b.path ≡ t → cond t (up_to q (stack b.path)) (walk (back src done) (n - (depth + 1)) (q ∷ stack b.path)) ≡ back_from n src done
     unfolding walk
     step_by t e =
-        let l : depth ≤ length path = omega (arith, b.long, b.room) in
         let z : suc (n - (depth + 1)) ≡ n - depth = omega arith in
-        ap (λ (u : Bool). cond u (up_to q (stack_of 0 path depth)) (walk (back src done) (n - (depth + 1)) (q ∷ stack_of 0 path depth))) (sym (stack_has q path depth l ∙ e))
-        ∙ ap (λ (r : ℕ). cond (has r (stack_of 0 path depth)) (up_to r (stack_of 0 path depth)) (walk (back src done) (n - (depth + 1)) (r ∷ stack_of 0 path depth))) b.next
-        ∙ ap (λ (k : ℕ). walk (back src done) k (stack_of 0 path depth)) z
+        ap (λ (u : Bool). cond u (up_to q (stack b.path)) (walk (back src done) (n - (depth + 1)) (q ∷ stack b.path))) (sym (has-stack q b.path ∙ e))
+        ∙ ap (λ (r : ℕ). cond (has r (stack b.path)) (up_to r (stack b.path)) (walk (back src done) (n - (depth + 1)) (r ∷ stack b.path))) b.next
+        ∙ ap (λ (k : ℕ). walk (back src done) k (stack b.path)) z
         ∙ b.whole
 
-    pub back_met : has q (take depth path) ≡ true → up_to q (stack_of 0 path depth) ≡ back_from n src done
+    pub back_met : has q b.path ≡ true → up_to q (stack b.path) ≡ back_from n src done
     back_met e = step_by true e
 
-    pub back_on : n ≤ 32 → has q (take depth path) ≡ false → (r : ℕ) → r ≡ behind src done q → Back src done n (set path depth q) (depth + 1) r
-    back_on few e r f =
-        let l : depth < length path = omega (arith, b.long) in
-        let s : stack_of 0 (set path depth q) (depth + 1) ≡ q ∷ stack_of 0 path depth = ap (stack_of 0 (set path depth q)) (add-one depth) ∙ stack_last 0 path depth q l in
+    pub back_on : n ≤ 32 → has q b.path ≡ false → (more : Table ℕ 32) (t : Bool) → t ≡ ltb nodes.count 32 → more ≡ pushed_if t nodes q → (r : ℕ) → r ≡ behind src done q → Back src done n more (depth + 1) r
+    back_on few e more t u w r f =
+        let s = stack-one b.path q in
         record {
-          long = length-set path depth q ∙ b.long;
+          path = b.path ++ one q;
+          held = put_list b.path q nodes more t b.held (omega (arith, b.long)) u w;
+          long = omega (arith, length-one b.path q, b.long);
           room = omega arith;
           next = f ∙ sym (ap (back src done) s);
           whole = ap (walk (back src done) (n - (depth + 1))) s ∙ step_by false e;
         }
 
-pub back-first : (src : Sources) (done : List ℕ) (n : ℕ) (path : List ℕ) (first q : ℕ) → length path ≡ 32 → first ≡ lowest n (is_left done) 0 → q ≡ behind src done first → Back src done n (set path 0 first) 1 q
+pub back-first : (src : Sources) (done : List ℕ) (n : ℕ) (nodes : Table ℕ 32) (first q : ℕ) → nodes ≡ nodes_held (one first) → first ≡ lowest n (is_left done) 0 → q ≡ behind src done first → Back src done n nodes 1 q
 unfolding back_from
-back-first src done n path first q l e f =
-    let h : 0 < length path = omega arith in
-    let s : stack_of 0 (set path 0 first) 1 ≡ one first = stack_last 0 path 0 first h in
+back-first src done n nodes first q w e f =
     record {
-      long = length-set path 0 first ∙ l;
+      path = one first;
+      held = w;
+      long = refl;
       room = omega arith;
-      next = f ∙ sym (ap (back src done) s);
-      whole = ap (walk (back src done) (n - 1)) (s ∙ ap one e);
+      next = f;
+      whole = ap (λ (p : ℕ). walk (back src done) (n - 1) (one p)) e;
     }
 
-pub held_none : (n : ℕ) (src : Sources) → Holds (replicate 32 0) 0 (listed n src 0)
-unfolding listed each
-held_none n src = record { held = refl; long = refl }
-
 -- ---- the answer
-module _ (n : ℕ) (src : Sources) (all : Nodes) (w : all ≡ list_of (listed n src n)) where
+module _ (n : ℕ) (src : Sources) (all : Table ℕ 32) (w : all ≡ nodes_held (listed n src n)) where
   long_is : all.count ≡ length (listed n src n)
-  long_is = ap (λ (x : Nodes). x.count) w
+  long_is = ap (λ (x : Table ℕ 32). x.count) w
 
-  nodes-is : all.nodes ≡ padded 32 0 (listed n src n)
-  nodes-is = ap (λ (x : Nodes). x.nodes) w
+  pub answer-all : all.count ≡ n → Ok all ≡ answer_of (signalled_by n src)
+  answer-all e = let z : length (listed n src n) ≡ n = sym long_is ∙ e in rw (eq-eqb (length (listed n src n)) n z) (ap Ok w)
 
-  pub answer-all : all.count ≡ n → (record { answer = Ready; count = n; nodes = all.nodes }) ≡ outcome_of (signalled_by n src)
-  answer-all e =
-      let z : length (listed n src n) ≡ n = sym long_is ∙ e in
-      rw (eq-eqb (length (listed n src n)) n z, nodes-is, z)
-
-  pub answer-cycle : all.count ≤ 32 → (all.count ≡ n → ⊥) → (f : Nodes) → f ≡ list_of (back_from n src (take all.count all.nodes)) → (record { answer = Refused 20 0; count = f.count; nodes = f.nodes }) ≡ outcome_of (signalled_by n src)
+  pub answer-cycle : all.count ≤ 32 → (all.count ≡ n → ⊥) → (f : Table ℕ 32) → f ≡ nodes_held (back_from n src (take all.count all.items)) → Err (Cycle f) ≡ answer_of (signalled_by n src)
   answer-cycle few e f v =
       let z : (length (listed n src n) ≡ n → ⊥) = λ i. e (long_is ∙ i) in
-      let h : take all.count all.nodes ≡ listed n src n = held_list all.nodes all.count (listed n src n) (record { held = nodes-is; long = long_is }) few in
+      let h : take all.count all.items ≡ listed n src n = held_list all (listed n src n) w (omega (arith, long_is)) in
       rw (ne_eqb (length (listed n src n)) n z, v, h)

@@ -35,15 +35,3 @@ module _ (test : ℕ → Bool) where
       low : test p ≡ false → Lowest k (suc p) (lowest k test (suc p)) → (q : ℕ) → p ≤ q → q < lowest k test (suc p) → (q ≡ p) ⊎ (q ≡ p → ⊥) → test q ≡ false
       low e o q h l (inl i) = subst (λ (z : ℕ). test z ≡ false) (sym i) e
       low e o q h l (inr i) = o.none q (omega arith) l
-
-  -- ---- of n numbers, from p on
-  pub lowest_next : (n p : ℕ) → p < n → lowest (n - p) test p ≡ cond (test p) p (lowest (n - (p + 1)) test (p + 1))
-  lowest_next n p h =
-      let e : n - p ≡ suc (n - (p + 1)) = omega arith in
-      ap (λ (k : ℕ). lowest k test p) e ∙ ap (λ (r : ℕ). cond (test p) p (lowest (n - (p + 1)) test r)) (sym (add-one p))
-
-  pub lowest_none : (n p : ℕ) → n ≤ p → p ≤ n → lowest (n - p) test p ≡ n
-  lowest_none n p h i =
-      let e : n - p ≡ 0 = omega arith in
-      let d : p ≡ n = omega arith in
-      ap (λ (k : ℕ). lowest k test p) e ∙ d

@@ -19,11 +19,10 @@ use Rattle.laws.proofs.Tests.{less?, pick-by}
 use Rattle.walks.specs.Walks.{Distinct, Cycle, walk}
 use Rattle.walks.proofs.Few.{has_more, has_first, distinct-one, every, few, many, place_in, place-early}
 use Rattle.walks.proofs.WalkLaws.{walk_cycle, walk_enough, no-cycle, cycle-by, cycle-all}
-use Rattle.chart.specs.declared.Answer.{Answer}
-use Rattle.chart.specs.declared.Answer.TheVariants.{Ready, Refused}
+use Rattle.std.specs.Prelude.{Result, Ok, Err}
+use Rattle.refusals.specs.declared.Refusal.{Refusal}
 use Rattle.chart.specs.declared.Setting.TheVariants.{Strict}
 use Rattle.chart.specs.Chart.{Board, Reading, ready as accepted, refusal as unread, chart}
-use Rattle.chart.specs.Read.{numbers_of}
 use Rattle.graph.specs.Graph.{Edge, Node, Graph, bare, given_graph, node_at, leads_to}
 use Rattle.graph.specs.Completion.{complete}
 use Rattle.graph.specs.Laws.{Aimed}
@@ -34,10 +33,11 @@ use Rattle.graph.proofs.EndsLaws.{shape_at, shape-long}
 use Rattle.graph.proofs.MutualLaws.{leads_in_lem}
 use Rattle.graph.proofs.Gathers.{completed-laws}
 use Rattle.signal.specs.Signal.{Sources, is_left, free, lowest, put, listed, first_out, behind, back, back_from, Signalled, ordered, cyclic, signalled_by, sources_in, signalled, completed_of, signals, signal}
-use Rattle.signal.specs.declared.SignalOrder.{SignalOrder}
-use Rattle.signal.specs.Outcome.{outcome_of}
+use Rattle.signal.specs.declared.NoOrder.{NoOrder}
+use Rattle.signal.specs.declared.NoOrder.TheVariants.{Cycle as CycleShown}
+use Rattle.signal.specs.Outcome.{Nodes, nodes_held, answer_of, numbers_in}
 use Rattle.signal.proofs.Lowest.{Lowest, is_lowest}
-use Rattle.signal.specs.Laws.{Leads, Order, nodes_of, Signals, IsSignalOrder}
+use Rattle.signal.specs.Laws.{Leads, Order, nodes_of, Signals, FewNodes, IsSignalOrder}
 
 -- ---- what all of them pass, one passes
 all_tested : (t : ℕ → Bool) (q : ℕ) (qs : List ℕ) → all_of t qs ≡ true → has q qs ≡ true → t q ≡ true
@@ -215,6 +215,12 @@ module _ (n : ℕ) (src : Sources) where
         done : List ℕ
         done = listed n src n
 
+ok_is : (t u : Nodes) → ◌≡◌ {A = Result Nodes NoOrder} (Ok t) (Ok u) → t ≡ u
+ok_is t u e = cc
+
+err_is : (t u : Nodes) → ◌≡◌ {A = Result Nodes NoOrder} (Err (CycleShown t)) (Err (CycleShown u)) → t ≡ u
+err_is t u e = cc
+
 -- ---- of a graph whose sources and sinks lead to nodes and name each other
 module _ (g : Shape) (inside : (p q : ℕ) → Leads g p q → (p < length g) × (q < length g))
     (both : (p q : ℕ) → has q (incidents_at g p).sinks ≡ has p (incidents_at g q).sources) where
@@ -244,52 +250,48 @@ module _ (g : Shape) (inside : (p q : ℕ) → Leads g p q → (p < length g) ×
   cycle-inside : (cs : List ℕ) → Cycle (Leads g) cs → All (λ p. p < length g) cs
   cycle-inside = cycle-all (Leads g) (λ p. p < length g) (λ p q e. (inside p q e).0)
 
-  module _ (s : List ℕ) (given-nodes : length g ≡ get_or s 1 0) (few-nodes : length g ≤ 32) (r : SignalOrder) (w : r ≡ outcome_of (signalled g)) where
+  module _ (s : List ℕ) (given-nodes : length g ≡ get_or s 1 0) (few-nodes : length g ≤ 32) (r : Result Nodes NoOrder) (w : r ≡ answer_of (signalled g)) where
     -- the nodes handed over are the list
-    handed : (l : List ℕ) → r.count ≡ length l → r.nodes ≡ padded 32 0 l → length l ≤ 32 → nodes_of r ≡ l
-    handed l c n h = rw (c, n) (take-padded 32 0 l h)
+    handed-is : (l : List ℕ) → length l ≤ 32 → nodes_of (nodes_held l) ≡ l
+    handed-is l h = take-padded 32 0 l h
 
-    not_both : (a : Answer) → a ≡ Ready → a ≡ Refused 20 0 → ⊥
-    not_both a d e = let z : ◌≡◌ {A = ℕ} 0 1 = cc in omega arith
+    ok_err : {A : Type 0} (t u : Nodes) → ◌≡◌ {A = Result Nodes NoOrder} (Ok t) (Err (CycleShown u)) → A
+    ok_err t u e = let z : ◌≡◌ {A = ℕ} 0 1 = cc in absurd (omega arith)
 
     -- the count is within the array, and the promise
-    pub says : (r.count ≤ 32) × Signals s g r
+    pub says : FewNodes r × Signals s g r
     says = go (tells (length g) src aims).told
       where
-        go : ((os : List ℕ) × (signalled g ≡ ordered os) × Listed (length g) src (length g) os × (length os ≡ length g)) ⊎ ((cs : List ℕ) × (signalled g ≡ cyclic cs) × Cycle (From (length g) src) cs) → (r.count ≤ 32) × Signals s g r
+        go : ((os : List ℕ) × (signalled g ≡ ordered os) × Listed (length g) src (length g) os × (length os ≡ length g)) ⊎ ((cs : List ℕ) × (signalled g ≡ cyclic cs) × Cycle (From (length g) src) cs) → FewNodes r × Signals s g r
         go (inl t) =
-            let v : r ≡ outcome_of (ordered t.0) = w ∙ ap outcome_of t.1 in
-            let k : r.count ≡ length t.0 = ap (λ (y : SignalOrder). y.count) v in
-            let e : nodes_of r ≡ t.0 = handed t.0 k (ap (λ (y : SignalOrder). y.nodes) v) (omega (arith, t.3)) in
-            let a : r.answer ≡ Ready = ap (λ (y : SignalOrder). y.answer) v in (
-              omega (arith, k, t.3),
+            let v : r ≡ Ok (nodes_held t.0) = w ∙ ap answer_of t.1 in
+            let e : nodes_of (nodes_held t.0) ≡ t.0 = handed-is t.0 (omega (arith, t.3)) in (
+              rw v (omega (arith, t.3)),
               record {
                 nodes = given-nodes;
                 both = both;
-                inside = rw e t.2.inside;
-                either = inl a;
-                order = λ h. rw e (is-order t.0 t.2 t.3);
-                cycle = λ h. absurd (not_both r.answer a h);
+                inside = rw (v, e) t.2.inside;
+                either = inl (nodes_held t.0, v);
+                order = λ u h. let z : nodes_held t.0 ≡ u = ok_is (nodes_held t.0) u (sym v ∙ h) in rw (← z, e) (is-order t.0 t.2 t.3);
+                cycle = λ u h. ok_err (nodes_held t.0) u (sym v ∙ h);
                 refused = λ cs c. absurd (unknotted (length g) src aims t.0 t.2 t.3 cs (cycle-by (Leads g) (From (length g) src) sourced cs c));
-                given = λ h. a;
+                given = λ h. (nodes_held t.0, v);
               },
             )
         go (inr t) =
-            let v : r ≡ outcome_of (cyclic t.0) = w ∙ ap outcome_of t.1 in
-            let k : r.count ≡ length t.0 = ap (λ (y : SignalOrder). y.count) v in
+            let v : r ≡ Err (CycleShown (nodes_held t.0)) = w ∙ ap answer_of t.1 in
             let c : Cycle (Leads g) t.0 = cycle-by (From (length g) src) (Leads g) sunk t.0 t.2 in
             let f : length t.0 ≤ length g = few (length g) t.0 c.distinct (cycle-inside t.0 c) in
-            let e : nodes_of r ≡ t.0 = handed t.0 k (ap (λ (y : SignalOrder). y.nodes) v) (omega arith) in
-            let a : r.answer ≡ Refused 20 0 = ap (λ (y : SignalOrder). y.answer) v in (
-              omega arith,
+            let e : nodes_of (nodes_held t.0) ≡ t.0 = handed-is t.0 (omega arith) in (
+              rw v (omega arith),
               record {
                 nodes = given-nodes;
                 both = both;
-                inside = rw e (cycle-inside t.0 c);
-                either = inr a;
-                order = λ h. absurd (not_both r.answer h a);
-                cycle = λ h. rw e c;
-                refused = λ cs h. a;
+                inside = rw (v, e) (cycle-inside t.0 c);
+                either = inr (nodes_held t.0, v);
+                order = λ u h. ok_err u (nodes_held t.0) (sym h ∙ v);
+                cycle = λ u h. let z : nodes_held t.0 ≡ u = err_is (nodes_held t.0) u (sym v ∙ h) in rw (← z, e) c;
+                refused = λ cs h. (nodes_held t.0, v);
                 given = λ h. absurd (h t.0 c);
               },
             )
@@ -319,26 +321,27 @@ module _ (g : Graph) where
       begins l (inr h) = absurd (false≢true (ap (λ (x : Node). leads_to x.sinks q) (sym (get_or-eq_default g bare h)) ∙ l))
 
 -- ---- the promise, from the answer's equation alone
-module _ (s : List ℕ) (r : SignalOrder) (w : r ≡ outcome_of (signal s)) where
-  read_is : (c : Reading) → chart Strict s ≡ c → r ≡ outcome_of (signals c)
+module _ (s : List ℕ) (r : Result Nodes NoOrder) (w : r ≡ answer_of (signal s)) where
+  read_is : (c : Reading) → chart Strict s ≡ c → r ≡ answer_of (signals c)
   unfolding signal
-  read_is c e = w ∙ ap (λ (x : Reading). outcome_of (signals x)) e
+  read_is c e = w ∙ ap (λ (x : Reading). answer_of (signals x)) e
 
-  accepts : (ps : Board) → chart Strict s ≡ accepted ps → (r.count ≤ 32) × Signals s (completed_of ps) r
+  accepts : (ps : Board) → chart Strict s ≡ accepted ps → FewNodes r × Signals s (completed_of ps) r
   accepts ps e =
       let g : Graph = complete (given_graph ps) in
       let l : CompletedLaws s (given_graph ps) g = completed-laws s ps e in
       says (shape_of g) (shape-inside g l.aimed) (shape-both g l.both) s (shape-long g ∙ l.nodes) (omega (arith, shape-long g, l.few)) r (read_is (accepted ps) e)
 
-  count-few : (c : Reading) → chart Strict s ≡ c → r.count ≤ 32
+  count-few : (c : Reading) → chart Strict s ≡ c → FewNodes r
   count-few (accepted ps) e = (accepts ps e).0
-  count-few (unread a b) e = omega (arith, ap (λ (o : SignalOrder). o.count) (read_is (unread a b) e))
+  count-few (unread why) e = rw (read_is (unread why) e) tt
 
   pub is-signal-order : IsSignalOrder s r
   is-signal-order =
       record {
         whole = w;
         few = count-few (chart Strict s) refl;
-        refused = λ a b e. ap (λ (o : SignalOrder). numbers_of o.answer) (read_is (unread a b) e);
+        refused = λ why e. read_is (unread why) e;
+        numbers = λ why e. ap numbers_in (read_is (unread why) e);
         laws = λ ps e. (accepts ps e).1;
       }

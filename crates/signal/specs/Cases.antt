@@ -9,6 +9,7 @@ use Rattle.walks.specs.Walks.{walk}
 use Rattle.chart.specs.Chart.{chart}
 use Rattle.graph.specs.Completion.{complete}
 use Rattle.graph.specs.Shape.{shape_of}
+use Rattle.refusals.specs.Refusals.{numbers_of}
 use Rattle.signal.specs.Signal.{Signalled, ordered, cyclic, refusal, listed, back_from, signal}
 
 data Case : Type 0 where
@@ -17,7 +18,7 @@ data Case : Type 0 where
 abbrev numbers : Signalled → List ℕ
 numbers (ordered os) = 0 ∷ 0 ∷ os
 numbers (cyclic cs) = 20 ∷ 0 ∷ cs
-numbers (refusal a b) = a ∷ b ∷ []
+numbers (refusal why) = (numbers_of why).first ∷ (numbers_of why).second ∷ []
 
 holds : Case → Bool
 holds (is s a b ns) = same (numbers (signal (hex s))) (a ∷ b ∷ ns)

@@ -5,6 +5,7 @@ use Rattle.laws.specs.Bytes.{all_of}
 use Rattle.laws.specs.Each.{each}
 use Rattle.laws.specs.Lists.{has, one}
 use Rattle.walks.specs.Walks.{walk}
+use Rattle.refusals.specs.declared.Refusal.{Refusal}
 use Rattle.chart.specs.declared.Setting.TheVariants.{Strict}
 use Rattle.chart.specs.Chart.{Board, Reading, ready as accepted, refusal as refused, chart}
 use Rattle.graph.specs.Graph.{given_graph}
@@ -56,11 +57,11 @@ unfoldable pub back_from : ℕ → Sources → List ℕ → List ℕ
 unfolding walk
 back_from n src done = walk (back src done) (n - 1) (one (lowest n (is_left done) 0))
 
--- an order, a cycle (refusal 20), or another refusal with its two numbers
+-- an order, a cycle (refusal 20), or another refusal
 pub data Signalled : Type 0 where
   ordered : List ℕ → Signalled
   cyclic : List ℕ → Signalled
-  refusal : ℕ → ℕ → Signalled
+  refusal : Refusal → Signalled
 
 -- done lists all n nodes, or a cycle is shown
 abbrev pub order_or_cycle : ℕ → Sources → List ℕ → Signalled
@@ -82,7 +83,7 @@ completed_of ps = shape_of (complete (given_graph ps))
 -- a refused chart stays refused; an accepted one is completed, and not cut
 abbrev pub signals : Reading → Signalled
 signals (accepted ps) = signalled (completed_of ps)
-signals (refused number second) = refusal number second
+signals (refused why) = refusal why
 
 -- the signal order of a chart's bytes, or the first of the refusals 1 to 12 and 20. Document 02, L5: 'the order of L2 relied on the old default and now use strict'
 unfoldable pub signal : List ℕ → Signalled

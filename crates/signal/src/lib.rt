@@ -1,286 +1,176 @@
 // Document 02, L2: the signal order of a chart's nodes, or a cycle. The chart is read in the strict setting (L5).
 #![tactic(auto)]
 
-ghost use Rattle.std.specs.Prelude.{◌≡◌, ◌≤◌, take};
-ghost use Rattle.laws.specs.Lists.{has, stack_of};
+ghost use Rattle.std.specs.Prelude.{◌≡◌, ◌≤◌, length};
+ghost use Rattle.laws.specs.Lists.{stack_of};
 ghost use Rattle.walks.specs.Walks.{up_to};
 ghost use Rattle.graph.specs.Shape.{shape_of};
+ghost use Rattle.graph.specs.Ends.{targets_of};
 ghost use Rattle.graph.specs.code.Tables.{Linked, graph_of};
-ghost use Rattle.signal.specs.Signal.{is_left, free, lowest, listed, behind, back_from, signalled_by, signalled, refusal};
-ghost use Rattle.signal.specs.Outcome.{outcome_of};
-ghost use Rattle.signal.specs.code.Nodes.{sources_of, IsOut, list_of};
+ghost use Rattle.signal.specs.Signal.{is_left, free, lowest, listed, behind, back_from, signalled_by, signalled};
+ghost use Rattle.signal.specs.Outcome.{nodes_held, answer_of, no_order_numbers};
+ghost use Rattle.signal.specs.code.Nodes.{sources_of, out_of, lowest_of};
 ghost use Rattle.signal.specs.Laws.{IsSignalOrder};
+ghost use Rattle.signal.specs.declared.NoOrder.TheVariants.{Refused};
 
-use chart::Answer;
-use graph::Tables;
+use graph::{Lead, Tables};
+use refusals::{Numbers, Refusal};
+use tables::Table;
 
-// The first count nodes: all of them in order, or those of a cycle (refused by 20). Entries past them are 0.
+// The number of the refusal that an order has beside those of a chart.
+pub const CYCLE: u8 = 20;
+
+// Nodes, and 0 past the last.
+pub type Nodes = Table<u8, 32>;
+
+// Why there is no order: the chart is refused, or its graph has a cycle (20), whose nodes these are.
 #[derive(Clone, Copy)]
-pub struct SignalOrder {
-    pub answer: Answer,
-    pub count: u8,
-    pub nodes: [u8; 32],
+pub enum NoOrder {
+    Refused(Refusal),
+    Cycle(Nodes),
 }
 
-// The first count nodes, and 0 past them.
-#[derive(Clone, Copy)]
-struct Nodes {
-    count: usize,
-    nodes: [u8; 32],
+impl From<Refusal> for NoOrder {
+    ghost from_gives = { λ why n. n ≡ Refused why };
+
+    fn from(why: Refusal) -> Self {
+        NoOrder::Refused(why)
+    }
 }
 
-// Whether p is one of the first count nodes.
-fn is_in(nodes: &[u8; 32], count: usize, p: u8) -> bool
-    requires { count ≤ 32 }
-    ensures { result ≡ has p (take count nodes.now) }
-{
-    let xs: &[u8] = nodes;
-    let mut k = 0usize;
-    while k < count {
-        if xs[k] == p {
-            return true;
+impl NoOrder {
+    // The number of the refusal, and its second number.
+    pub fn numbers(&self) -> Numbers
+        ensures { result ≡ no_order_numbers self.now }
+    {
+        match self {
+            NoOrder::Refused(why) => why.numbers(),
+            NoOrder::Cycle(_) => Numbers {
+                first: CYCLE,
+                second: 0,
+            },
         }
-        k += 1;
     }
-    false
 }
 
-// The first record of a source of p that is not among the first done nodes; count where each of them is.
-fn first_out(
-    owner: &[u8; 88],
-    to: &[u8; 88],
-    count: usize,
-    nodes: &[u8; 32],
-    done: usize,
-    p: u8,
-) -> usize
-    requires { (count ≤ 88) × (done ≤ 32) }
-    ensures { IsOut owner.now to.now count (take done nodes.now) p result }
+// The first source of p that is not among the nodes done, if there is one.
+fn first_out(sources: &[Lead], done: &[u8], p: u8) -> Option<u8>
+    ensures { result ≡ out_of done.now (targets_of p sources.now) }
 {
-    let os: &[u8] = owner;
-    let ts: &[u8] = to;
-    let mut k = 0usize;
-    while k < count {
-        if os[k] == p {
-            if !is_in(nodes, done, ts[k]) {
-                return k;
-            }
+    for e in sources {
+        if e.owner == p && !done.contains(&e.to) {
+            return Some(e.to);
         }
-        k += 1;
     }
-    count
+    None
 }
 
-// Whether p is free: it is not among the first done nodes, and each of its sources is.
-fn is_free(
-    owner: &[u8; 88],
-    to: &[u8; 88],
-    count: usize,
-    nodes: &[u8; 32],
-    done: usize,
-    p: u8,
-) -> bool
-    requires { (count ≤ 88) × (done ≤ 32) }
-    ensures { result ≡ free (sources_of owner.now to.now count) (take done nodes.now) p }
+// Whether p is free: it is not among the nodes done, and each of its sources is.
+fn is_free(sources: &[Lead], done: &[u8], p: u8) -> bool
+    ensures { result ≡ free (sources_of sources.now) done.now p }
 {
-    if is_in(nodes, done, p) {
-        return false;
-    }
-    first_out(owner, to, count, nodes, done, p) == count
+    !done.contains(&p) && first_out(sources, done, p).is_none()
 }
 
-// The lowest free number, n where none is free.
-fn lowest_free(
-    owner: &[u8; 88],
-    to: &[u8; 88],
-    count: usize,
-    nodes: &[u8; 32],
-    done: usize,
-    n: usize,
-) -> usize
-    requires { (count ≤ 88) × (done ≤ 32) × (n ≤ 32) }
-    ensures { result ≡ lowest n (free (sources_of owner.now to.now count) (take done nodes.now)) 0 }
+// The lowest free number, if one of n is free.
+fn lowest_free(sources: &[Lead], done: &[u8], n: u8) -> Option<u8>
+    ensures { result ≡ lowest_of n (free (sources_of sources.now) done.now) }
 {
-    let mut p = 0usize;
-    while p < n {
-        if is_free(owner, to, count, nodes, done, p as u8) {
-            return p;
-        }
-        p += 1;
-    }
-    n
+    (0..n).find(|&p| is_free(sources, done, p))
 }
 
 // The lowest free number next, as long as there is one.
-fn list_nodes(owner: &[u8; 88], to: &[u8; 88], count: usize, n: usize) -> Nodes
-    requires { (count ≤ 88) × (n ≤ 32) }
-    ensures whole { result ≡ list_of (listed n (sources_of owner.now to.now count) n) }
+fn list_nodes(sources: &[Lead], n: u8) -> Nodes
+    requires { n ≤ 32 }
+    ensures whole { result ≡ nodes_held (listed n (sources_of sources.now) n) }
     ensures few { result.count ≤ 32 }
 {
-    let mut nodes = [0u8; 32];
-    let mut done = 0usize;
-    while done < n {
-        let p = lowest_free(owner, to, count, &nodes, done, n);
-        if n <= p {
+    let mut nodes = Table::empty(0);
+    for _ in 0..n {
+        let Some(p) = lowest_free(sources, nodes.as_slice(), n) else {
             break;
-        }
-        nodes[done] = p as u8;
-        done += 1;
+        };
+        nodes.push(p);
     }
-    Nodes {
-        count: done,
-        nodes: nodes,
-    }
+    nodes
 }
 
-// The lowest number that is not among the first done nodes.
-fn first_left(nodes: &[u8; 32], done: usize, n: usize) -> usize
-    requires { (done ≤ 32) × (n ≤ 32) }
-    ensures { result ≡ lowest n (is_left (take done nodes.now)) 0 }
+// The lowest of n numbers that is not among the nodes done; n where each is, as the definition has it.
+fn first_left(done: &[u8], n: u8) -> u8
+    ensures { result ≡ lowest n (is_left done.now) 0 }
 {
-    let mut q = 0usize;
-    while q < n {
-        if !is_in(nodes, done, q as u8) {
-            return q;
-        }
-        q += 1;
-    }
-    n
+    (0..n).find(|q| !done.contains(q)).unwrap_or(n)
 }
 
-// The first of p's sources that is not among the first done nodes.
-fn source_left(
-    owner: &[u8; 88],
-    to: &[u8; 88],
-    count: usize,
-    nodes: &[u8; 32],
-    done: usize,
-    p: u8,
-) -> u8
-    requires { (count ≤ 88) × (done ≤ 32) }
-    ensures { result ≡ behind (sources_of owner.now to.now count) (take done nodes.now) p }
+// The first of p's sources that is not among the nodes done; 0 where each is, as the definition has it.
+fn source_left(sources: &[Lead], done: &[u8], p: u8) -> u8
+    ensures { result ≡ behind (sources_of sources.now) done.now p }
 {
-    let k = first_out(owner, to, count, nodes, done, p);
-    if k < count {
-        return to[k];
-    }
-    0
+    first_out(sources, done, p).unwrap_or(0)
 }
 
 // The path, the last first, up to q.
-fn cut_at(path: &[u8; 32], depth: usize, q: u8) -> Nodes
-    requires { depth ≤ 32 }
-    ensures whole { result ≡ list_of (up_to q (stack_of 0 path.now depth)) }
+fn cut_at(path: &[u8], q: u8) -> Nodes
+    requires { length path.now ≤ 32 }
+    ensures whole { result ≡ nodes_held (up_to q (stack_of 0 path.now (length path.now))) }
     ensures few { result.count ≤ 32 }
 {
-    let mut nodes = [0u8; 32];
-    let mut count = 0usize;
-    let mut k = depth;
-    while 0 < k {
-        k -= 1;
-        let x = path[k];
-        nodes[count] = x;
-        count += 1;
-        if x == q {
-            return Nodes {
-                count: count,
-                nodes: nodes,
-            };
+    let mut nodes = Table::empty(0);
+    for k in (0..path.len()).rev() {
+        nodes.push(path[k]);
+        if path[k] == q {
+            break;
         }
     }
-    Nodes {
-        count: count,
-        nodes: nodes,
-    }
+    nodes
 }
 
 // From the lowest node left back to sources that are left, until a node comes again.
-fn find_cycle(
-    owner: &[u8; 88],
-    to: &[u8; 88],
-    count: usize,
-    nodes: &[u8; 32],
-    done: usize,
-    n: usize,
-) -> Nodes
-    requires { (count ≤ 88) × (done ≤ 32) × (n ≤ 32) }
-    ensures whole { result ≡ list_of (back_from n (sources_of owner.now to.now count) (take done nodes.now)) }
+fn find_cycle(sources: &[Lead], done: &[u8], n: u8) -> Nodes
+    requires { n ≤ 32 }
+    ensures whole { result ≡ nodes_held (back_from n (sources_of sources.now) done.now) }
     ensures few { result.count ≤ 32 }
 {
-    let first = first_left(nodes, done, n) as u8;
-    let mut path = [0u8; 32];
-    path[0] = first;
-    let mut depth = 1usize;
-    let mut q = source_left(owner, to, count, nodes, done, first);
-    while depth < n {
-        if is_in(&path, depth, q) {
-            return cut_at(&path, depth, q);
+    let first = first_left(done, n);
+    let mut path: Nodes = Table::empty(0);
+    path.push(first);
+    let mut q = source_left(sources, done, first);
+    for _ in 1..n {
+        if path.as_slice().contains(&q) {
+            break;
         }
-        path[depth] = q;
-        depth += 1;
-        q = source_left(owner, to, count, nodes, done, q);
+        path.push(q);
+        q = source_left(sources, done, q);
     }
-    cut_at(&path, depth, q)
+    cut_at(path.as_slice(), q)
 }
 
-// The signal order of n nodes, or a cycle: source k of the first count is node owner[k]'s and comes from node to[k].
-fn signal_order_of(owner: &[u8; 88], to: &[u8; 88], count: usize, n: usize) -> SignalOrder
-    requires { (count ≤ 88) × (n ≤ 32) }
-    ensures { result ≡ outcome_of (signalled_by n (sources_of owner.now to.now count)) }
+// The signal order of n nodes, by their sources, or a cycle.
+fn signal_order_of(sources: &[Lead], n: u8) -> Result<Nodes, NoOrder>
+    requires { n ≤ 32 }
+    ensures { result ≡ answer_of (signalled_by n (sources_of sources.now)) }
 {
-    let all = list_nodes(owner, to, count, n);
-    let done = all.count;
-    let nodes = all.nodes;
-    if done == n {
-        return SignalOrder {
-            answer: Answer::Ready,
-            count: n as u8,
-            nodes: nodes,
-        };
+    let all = list_nodes(sources, n);
+    if all.count == n as usize {
+        return Ok(all);
     }
-    let found = find_cycle(owner, to, count, &nodes, done, n);
-    let cycle = found.nodes;
-    SignalOrder {
-        answer: Answer::Refused(20, 0),
-        count: found.count as u8,
-        nodes: cycle,
-    }
-}
-
-// A refused chart.
-fn refused(number: u8, second: u32) -> SignalOrder
-    ensures { result ≡ outcome_of (refusal number second) }
-{
-    let none = [0u8; 32];
-    SignalOrder {
-        answer: Answer::Refused(number, second),
-        count: 0,
-        nodes: none,
-    }
+    Err(NoOrder::Cycle(find_cycle(sources, all.as_slice(), n)))
 }
 
 // The signal order of a completed graph.
-fn ordered_of(g: Tables) -> SignalOrder
+fn ordered_of(g: Tables) -> Result<Nodes, NoOrder>
     requires linked { Linked g }
     requires n_bound { g.n ≤ 32 }
-    ensures { result ≡ outcome_of (signalled (shape_of (graph_of g))) }
+    ensures { result ≡ answer_of (signalled (shape_of (graph_of g))) }
 {
-    let sources = g.sources;
-    let ends = graph::ends_of(sources);
-    let owner = ends.owner;
-    let to = ends.to;
-    signal_order_of(&owner, &to, ends.count, g.n)
+    let ends = graph::ends_of(g.sources);
+    signal_order_of(ends.as_slice(), g.n as u8)
 }
 
 // The signal order of a chart's nodes, or a cycle (20), or the first refusal of 1 to 12.
-pub fn signal_order(chart: &[u8]) -> SignalOrder
+pub fn signal_order(chart: &[u8]) -> Result<Nodes, NoOrder>
     ensures { IsSignalOrder chart.now result }
 {
-    let r = graph::completed(chart);
-    let answer = r.answer;
-    let g = r.graph;
-    match answer {
-        Answer::Ready => ordered_of(g),
-        Answer::Refused(number, second) => refused(number, second),
-    }
+    let g = graph::completed(chart)?;
+    ordered_of(g)
 }

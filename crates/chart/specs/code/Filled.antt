@@ -2,15 +2,16 @@
 -- Assumes nothing.
 use Rattle.std.specs.Prelude.{ℕ, suc, ◌+◌, cond, List, [], ◌∷◌, ltb, set, take, replicate}
 use Rattle.laws.specs.Lists.{tabulate, owned_by}
+use Rattle.tables.specs.declared.Table.{Table}
 use Rattle.chart.specs.declared.Item.{Item}
-use Rattle.chart.specs.declared.Table.{Table}
+use Rattle.chart.specs.Tables.{Items}
 use Rattle.chart.specs.declared.Line.{Line}
-use Rattle.chart.specs.declared.Lines.{Lines}
+use Rattle.chart.specs.Tables.{Lines}
 use Rattle.chart.specs.declared.Board.{Board as Tables}
 use Rattle.chart.specs.Chart.{Part, End, Node, Board}
 use Rattle.chart.specs.Tables.{no_item, no_line, item_of, line_of}
 
-abbrev pub empty_table : Table
+abbrev pub empty_table : Items
 empty_table = record { items = replicate 64 no_item; count = 0 }
 
 abbrev pub empty_lines : Lines
@@ -34,7 +35,7 @@ owned = owned_by (λ r. r.owner) end_of
 abbrev pub owned_lines : ℕ → List Line → List Part
 owned_lines = owned_by (λ r. r.owner) part_of
 
-abbrev pub items_of : Table → List Item
+abbrev pub items_of : Items → List Item
 items_of t = take t.count t.items
 
 abbrev pub lines_of : Lines → List Line
@@ -55,31 +56,22 @@ board_of t = board_from t.n (items_of t.sources) (lines_of t.lines) (items_of t.
 -- ---- the tables as the code makes them, of any board
 
 -- one record more; past the array only the count says so
-abbrev pub pushed : Table → Item → Table
-pushed t x =
-    cond (ltb t.count 64) (record { items = set t.items t.count x; count = t.count + 1 }) (record { items = t.items; count = 65 })
+abbrev pub pushed : {A : Type 0} {m : ℕ} → Table A m → A → Table A m
+pushed {m = m} t x = cond (ltb t.count m) (record { items = set t.items t.count x; count = t.count + 1 }) (record { items = t.items; count = m + 1 })
 
-abbrev pub pushed_line : Lines → Line → Lines
-pushed_line t x =
-    cond (ltb t.count 128) (record { items = set t.items t.count x; count = t.count + 1 }) (record { items = t.items; count = 129 })
-
--- the records of p pushed one after the other
-abbrev pub push_all : Table → ℕ → List End → Table
-push_all t p [] = t
-push_all t p (e ∷ es) = push_all (pushed t (item_of p e)) p es
-
-abbrev pub push_lines : Lines → ℕ → List Part → Lines
-push_lines t p [] = t
-push_lines t p (e ∷ es) = push_lines (pushed_line t (line_of p e)) p es
+-- the records of some values pushed one after the other
+abbrev pub push_all : {A W : Type 0} {m : ℕ} → (W → A) → Table A m → List W → Table A m
+push_all make t [] = t
+push_all make t (e ∷ es) = push_all make (pushed t (make e)) es
 
 -- the tables with node p, and with the nodes from p on
 abbrev pub with_node : Tables → ℕ → Node → Tables
 with_node t p q =
     record {
       n = t.n;
-      sources = push_all t.sources p q.sources;
-      lines = push_lines t.lines p q.lines;
-      sinks = push_all t.sinks p q.sinks;
+      sources = push_all (item_of p) t.sources q.sources;
+      lines = push_all (line_of p) t.lines q.lines;
+      sinks = push_all (item_of p) t.sinks q.sinks;
     }
 
 abbrev pub with_nodes : Tables → ℕ → Board → Tables

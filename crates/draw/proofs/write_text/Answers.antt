@@ -6,5 +6,5 @@ use Rattle.draw.proofs.write_text.Goals as goal
 
 pub unreachable-requires : goal.unreachable-requires
 unreachable-requires c =
-    let most = sound-text-most c.args.s c.requires.s_value in
-    c.in_default.not-Done _ (sound-written c.requires.s_value (omega arith) c.write_sheet.ensures)
+    let most = sound-text-most c.args.s.now c.requires.s_value in
+    c.in_default.not-Ok _ (sound-written c.requires.s_value (omega arith) c.write_sheet.ensures)

@@ -1,14 +1,8 @@
--- `ends_of`: the first k owners and targets are those of the first k records.
+-- `ends_of`: the first k leads are those of the first k records.
 -- Assumes nothing.
-use Prim.Native.Nat.{◌-◌, ◌≤◌}
-use mathlib.Core.Path.{◌≡◌}
-use mathlib.Core.List.{map}
-use lib.ListN.{length, take}
-use Rattle.graph.specs.declared.Item.{Item}
+use Rattle.std.proofs.Common.{◌≡◌, length, take, map}
+use Rattle.graph.specs.Ends.{lead_of}
 use Rattle.graph.proofs.ends_of.Given as goal
 
 abbrev pub invariant-loop-k : goal.invariant-loop-k
-invariant-loop-k l = (l.k ≤ 88) × (length l.owner ≡ 88) × (length l.to ≡ 88) × (take l.k l.owner ≡ map (λ (x : Item). x.owner) (take l.k l.t.items)) × (take l.k l.to ≡ map (λ (x : Item). x.to) (take l.k l.t.items))
-
-abbrev pub decreases-loop-k : goal.decreases-loop-k
-decreases-loop-k l = 88 - l.k
+invariant-loop-k l = (length l.items ≡ 88) × (take l.k l.items ≡ map lead_of (take l.k l.fn.t.items))

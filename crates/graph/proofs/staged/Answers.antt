@@ -1,17 +1,17 @@
 -- `staged`: the chart crate's promise and that of `drawn`, by the laws of `Begins`.
 -- Assumes nothing.
+use Rattle.std.proofs.Common.{◌≡◌, rules}
+use Rattle.std.specs.Prelude.{Err}
 use Rattle.graph.proofs.Begins.{read_held, stage-read, stage_not}
 use Rattle.graph.proofs.staged.Goals as goal
 
 pub drawn-requires : goal.drawn-requires
-drawn-requires c = read_held c.args.setting c.args.chart.now c.read-read.result c.read-read.ensures c.in-Ready.is
+drawn-requires c = read_held c.args.setting c.args.chart.now c.read.result c.read.ensures _ c.in_ok-board.was
 
-pub returns-in-Ready : goal.returns-in-Ready
-returns-in-Ready c =
-    let s = c.args.chart.now in
-    stage-read c.args.setting s c.read-read.result c.read-read.ensures c.args.cut c.in-Ready.is c.drawn.result c.drawn.ensures
+pub returns-in_err-board : goal.returns-in_err-board
+returns-in_err-board c =
+    let e : c.from_residual.result ≡ Err c.in_err-board.field-0.0 = search rules in
+    rw e (stage_not c.args.setting c.args.chart.now c.read.result c.read.ensures c.args.cut _ c.in_err-board.was)
 
-pub returns-in-Refused : goal.returns-in-Refused
-returns-in-Refused c =
-    let s = c.args.chart.now in
-    stage_not c.args.setting s c.read-read.result c.read-read.ensures c.args.cut c.in-Refused.number c.in-Refused.second c.in-Refused.is c.refused.result c.refused.ensures
+pub returns : goal.returns
+returns c = stage-read c.args.setting c.args.chart.now c.read.result c.read.ensures _ c.in_ok-board.was c.args.cut c.drawn.result c.drawn.ensures

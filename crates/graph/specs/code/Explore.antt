@@ -1,22 +1,23 @@
 -- The cutting walk with an explicit path, against the walk by recursion of `Cutting`: what is left of the walk at a state, and the bound that falls.
 -- Assumes nothing.
-use Rattle.std.specs.Prelude.{ℕ, suc, ◌+◌, ◌-◌, ◌*◌, ◌≤◌, ◌<◌, ◌≡◌, Bool, true, false, List, [], ◌∷◌, length, take}
+use Rattle.std.specs.Prelude.{ℕ, suc, ◌+◌, ◌-◌, ◌*◌, ◌≤◌, ◌<◌, ◌≡◌, Bool, true, false, List, [], ◌∷◌, length, take, Result, Ok, Err}
 use Rattle.graph.specs.declared.Tables.{Tables}
 use Rattle.graph.specs.declared.cutting.Look.{Look}
-use Rattle.graph.specs.declared.cutting.Found.{Found}
-use Rattle.graph.specs.declared.cutting.Found.TheVariants.{At, Nothing}
-use Rattle.graph.specs.declared.Item.{Item}
+use Rattle.refusals.specs.declared.Refusal.{Refusal}
+use Rattle.refusals.specs.declared.Refusal.TheVariants.{ManyBoxes}
 use Rattle.laws.specs.Lists.{stack_of}
-use Rattle.graph.specs.Graph.{degree}
-use Rattle.graph.specs.Cutting.{Walk, explore_from, explore_sinks, seeing, explored, cutting}
-use Rattle.graph.specs.code.Tables.{graph_of, owned, Sunk, Roomy}
+use Rattle.graph.specs.declared.reach.Seen.{Seen}
+use Rattle.graph.specs.declared.reach.Seen.TheVariants.{Explored}
+use Rattle.graph.specs.Graph.{Graph, degree}
+use Rattle.graph.specs.Cutting.{Walk, explore_from, explore_sinks, seeing, beginning, cutting}
+use Rattle.graph.specs.code.Tables.{graph_of, Roomy}
 use Rattle.graph.specs.code.Path.{unseens}
 
 -- the walk's state: the number of nodes that were given, the tables so far, how each node stands, and the path, the first depth frames
 pub record Explore : Type 0 where
   pub given : ℕ
   pub tables : Tables
-  pub seen : List ℕ
+  pub seen : List Seen
   pub frames : List Look
   pub depth : ℕ
 
@@ -30,7 +31,7 @@ rest w f = degree w.graph f.node - f.sink
 -- the walk once each frame has gone through the rest of its sinks, the last first: d more nodes may stand on the path
 unfoldable pub resume : ℕ → Walk → List Look → Walk
 resume d w [] = w
-resume d w (f ∷ fs) = resume (suc d) (seeing (explore_sinks (λ u q. explore_from d u q) w f.node f.sink (rest w f)) f.node explored) fs
+resume d w (f ∷ fs) = resume (suc d) (seeing (explore_sinks (λ u q. explore_from d u q) w f.node f.sink (rest w f)) f.node Explored) fs
 
 -- the looks that the frames may still take, and one more for each to leave
 unfoldable pub looks : List Look → ℕ
@@ -42,11 +43,6 @@ abbrev pub Within : ℕ → List Look → Type 0
 Within n [] = Unit {0}
 Within n (f ∷ fs) = (f.node < n) × Within n fs
 
--- the place of record number s of those that c owns, or none where c owns s or fewer
-abbrev pub IsFound : List Item → ℕ → ℕ → Found → Type 0
-IsFound ys c s (At k) = Sunk ys c s k
-IsFound ys c s Nothing = length (owned c ys) ≤ s
-
 -- the walk's state as `Cutting` has it
 abbrev pub walk_of : Explore → Walk
 walk_of x = record { graph = graph_of x.tables; seen = take x.tables.n x.seen; cuts = x.tables.cuts }
@@ -57,13 +53,23 @@ answer x = resume (x.given - x.depth) (walk_of x) (stack_of no_look x.frames x.d
 abbrev pub effort : Explore → ℕ
 effort x = 89 * unseens (walk_of x).seen + looks (stack_of no_look x.frames x.depth)
 
--- each cut made two nodes, and each node on the path was unseen before it
+-- the arrays have their sizes, each cut made two nodes, and each node on the path was unseen before it
 pub record Ready (x : Explore) : Type 0 where
+  pub all : length x.seen ≡ 48
+  pub most : length x.frames ≡ 48
+  pub named : length x.tables.names ≡ 48
   pub sound : Roomy x.tables
   pub count : x.given + 2 * x.tables.cuts ≡ x.tables.n
   pub room : x.depth + unseens (walk_of x).seen ≤ x.given
   pub within : Within x.tables.n (stack_of no_look x.frames x.depth)
 
+-- y is x some steps on
+pub record Since (x y : Explore) : Type 0 where
+  pub ready : Ready y
+  pub lines : y.tables.lines ≡ x.tables.lines
+  pub same : answer y ≡ answer x
+
+-- y is x one step on
 pub record Kept (x y : Explore) : Type 0 where
   pub ready : Ready y
   pub given : y.given ≡ x.given
@@ -71,6 +77,7 @@ pub record Kept (x y : Explore) : Type 0 where
   pub same : answer y ≡ answer x
   pub less : effort y < effort x
 
+-- y is x once the walk from p is over
 pub record Walked (x : Explore) (p : ℕ) (y : Explore) : Type 0 where
   pub ready : Ready y
   pub done : y.depth ≡ 0
@@ -78,28 +85,20 @@ pub record Walked (x : Explore) (p : ℕ) (y : Explore) : Type 0 where
   pub lines : y.tables.lines ≡ x.tables.lines
   pub walk : walk_of y ≡ explore_from x.given (walk_of x) p
 
--- all cycles that no root reaches are cut, or a cut would make more than 48 nodes
-abbrev pub CutAll : Tables → Bool → Explore → Type 0
-CutAll t true y = Roomy y.tables × (y.tables.lines ≡ t.lines) × (walk_of y ≡ cutting (graph_of t))
-CutAll t false y = 48 < length (cutting (graph_of t)).graph
+-- the walk over the starts, if asked: not asked, no node is one
+abbrev pub cut_if : Bool → Graph → Walk
+cut_if true g = cutting g
+cut_if false g = beginning g
 
--- the state once the walks are over: the tables, and how each node stands
-abbrev pub over : Tables → List ℕ → Explore
-over r sn = record { given = 0; tables = r; seen = sn; frames = []; depth = 0 }
-
--- r is t cut, however each node stands then
-pub record CutTables (t : Tables) (ok : Bool) (r : Tables) : Type 0 where
-  pub standing : List ℕ
-  pub cut : CutAll t ok (over r standing)
-
--- r has the graph of t
-pub record SameGraph (t r : Tables) : Type 0 where
+-- r is t with the graph and the cuts of w
+pub record Holds (t r : Tables) (w : Walk) : Type 0 where
   pub sound : Roomy r
-  pub graph : graph_of r ≡ graph_of t
-  pub cuts : r.cuts ≡ 0
+  pub named : length r.names ≡ 48
+  pub graph : graph_of r ≡ w.graph
+  pub cuts : r.cuts ≡ w.cuts
   pub lines : r.lines ≡ t.lines
 
--- r is t, cut if asked
-abbrev pub CutIf : Bool → Tables → Bool → Tables → Type 0
-CutIf true t ok r = CutTables t ok r
-CutIf false t ok r = (ok ≡ true) × SameGraph t r
+-- r is t, cut if asked, unless a cut would make more than 48 nodes
+abbrev pub CutIf : Bool → Tables → Result (Unit {0}) Refusal → Tables → Type 0
+CutIf cut t (Ok u) r = Holds t r (cut_if cut (graph_of t))
+CutIf cut t (Err why) r = (why ≡ ManyBoxes) × (48 < length (cut_if cut (graph_of t)).graph)

@@ -1,89 +1,74 @@
 -- What an answer of `graph` or `completed` stands for, what the crates above take of it (`graphs-of`, `completed-answers` of proofs/Tabled), and what private functions answer.
 -- Assumes nothing.
-use Rattle.std.specs.Prelude.{ℕ, ◌≤◌, ◌<◌, ◌≡◌, ◌⊎◌, Bool, true, false, cond, List, leb, length, replicate}
+use Rattle.std.specs.Prelude.{ℕ, ◌≤◌, ◌≡◌, Bool, List, length, replicate, Result, Ok, Err}
 use Rattle.laws.specs.Lists.{All, owned_by, tabulate, joined}
 use Rattle.chart.specs.declared.Board.{Board as BoardTables}
 use Rattle.chart.specs.declared.Setting.{Setting}
-use Rattle.chart.specs.declared.Answer.{Answer}
-use Rattle.chart.specs.declared.Answer.TheVariants.{Ready, Refused}
+use Rattle.refusals.specs.declared.Refusal.{Refusal}
 use Rattle.chart.specs.Chart.{Reading, ready as accepted, refusal as refused, chart}
 use Rattle.chart.specs.code.Filled.{empty_lines, board_of, tables_of as board_tables}
 use Rattle.chart.specs.code.Reads.{Sound as SoundBoard}
 use Rattle.graph.specs.declared.Item.{Item}
-use Rattle.graph.specs.declared.Table.{Table}
+use Rattle.graph.specs.Items.{Items}
+use Rattle.graph.specs.declared.Name.TheVariants.{Nothing}
 use Rattle.graph.specs.declared.Tables.{Tables}
-use Rattle.graph.specs.declared.Outcome.{Outcome}
 use Rattle.graph.specs.Graph.{Graph, given_graph}
 use Rattle.graph.specs.Joining.{uncut}
-use Rattle.graph.specs.Cutting.{cutting}
 use Rattle.graph.specs.Graphed.{Dag, Graphed, ready, refusal, boxed, graphed}
 use Rattle.graph.specs.Laws.{Laws}
+use Rattle.graph.specs.code.Explore.{cut_if}
 use Rattle.graph.specs.code.Tables.{items_of, graph_of, Linked, Charted}
-use Rattle.graph.specs.Outcome.{table_of, outcome_of, no_item}
+use Rattle.graph.specs.Outcome.{table_of, answer_of, no_item}
 
 -- ---- what an answer stands for
 
-abbrev pub empty_table : Table
+abbrev pub empty_table : Items
 empty_table = record { items = replicate 88 no_item; count = 0 }
 
 -- the empty tables, as the code makes them
 abbrev pub no_nodes : Tables
-no_nodes = record { n = 0; cuts = 0; names = replicate 48 512; lines = empty_lines; sources = empty_table; sinks = empty_table }
+no_nodes = record { n = 0; cuts = 0; names = replicate 48 Nothing; lines = empty_lines; sources = empty_table; sinks = empty_table }
 
 abbrev pub dag_in : Tables → Dag
 dag_in t = record { graph = graph_of t; cuts = t.cuts }
 
-abbrev pub graphed_by : Answer → Tables → Graphed
-graphed_by Ready t = ready (dag_in t)
-graphed_by (Refused a b) t = refusal a b
+abbrev pub graphed_of : Result Tables Refusal → Graphed
+graphed_of (Ok t) = ready (dag_in t)
+graphed_of (Err why) = refusal why
 
-abbrev pub graphed_of : Outcome → Graphed
-graphed_of r = graphed_by r.answer r.graph
-
--- how a line is held: none, a given node's number, or a target that is no node
-abbrev pub Name : ℕ → Type 0
-Name m = (m ≡ 512 → ⊥) → (m < 32) ⊎ ((256 < m) × (m < 512))
-
--- the tables, for the crates above, whether accepted or not: the counts are within the arrays, each owner and each target is a node,
--- a mark is held as 88 at most, and a name is 512, a given node's number, or 256 and a target that is 1 to 255
+-- the tables, for the crates above: the counts are within the arrays, each owner and each target is a node,
+-- and a mark is held as 88 at most
 pub record Sound (t : Tables) : Type 0 where
   pub linked : Linked t
   pub line_room : t.lines.count ≤ 128
   pub source_marks : All (λ (x : Item). x.mark ≤ 88) (items_of t.sources)
   pub sink_marks : All (λ (x : Item). x.mark ≡ 0) (items_of t.sinks)
-  pub names : All Name t.names
 
 -- what the crates above take of the graph of the chart s in the setting w: it follows from `IsGraph` (`graphs-of` of proofs/Tabled)
-pub record Graphs (w : Setting) (s : List ℕ) (r : Outcome) : Type 0 where
+pub record Graphs (w : Setting) (s : List ℕ) (r : Result Tables Refusal) : Type 0 where
   -- the answer and the graph are exactly the definition's
   pub graphs : graphed_of r ≡ graphed w s
-  pub whole : r ≡ outcome_of (graphed w s)
-  -- the tables, whether accepted or not
-  pub sound : Sound r.graph
-  -- the laws of the graph that is drawn
-  pub laws : r.answer ≡ Ready → Laws w s (dag_in r.graph)
+  pub whole : r ≡ answer_of (graphed w s)
+  -- the tables of the graph that is drawn, and its laws
+  pub sound : (t : Tables) → r ≡ Ok t → Sound t
+  pub laws : (t : Tables) → r ≡ Ok t → Laws w s (dag_in t)
 
--- r is the answer of g: what it stands for, every field of it, and its tables, accepted or not
-pub record IsAnswer (g : Graphed) (r : Outcome) : Type 0 where
+-- r is the answer of g: what it stands for, every field of it, and its tables
+pub record IsAnswer (g : Graphed) (r : Result Tables Refusal) : Type 0 where
   pub graphs : graphed_of r ≡ g
-  pub whole : r ≡ outcome_of g
-  pub linked : Linked r.graph
+  pub whole : r ≡ answer_of g
+  pub linked : (t : Tables) → r ≡ Ok t → Linked t
 
 -- ---- what private functions answer
 
--- the graph as it is; 13 where the boxes of leads are too many
-abbrev pub as_is : Graph → Graphed
-as_is g = cond (leb (length g) 48) (ready (record { graph = g; cuts = 0 })) (refusal 13 0)
-
--- the graph before any cut, cut or not
+-- the graph before any cut, cut or not; 13 where the boxes of leads are too many
 abbrev pub stage : Bool → Graph → Graphed
-stage true g = boxed (cutting g)
-stage false g = as_is g
+stage cut g = boxed (cut_if cut g)
 
 -- a refused chart stays refused
 abbrev pub staged : Bool → Reading → Graphed
 staged cut (accepted ps) = stage cut (uncut ps)
-staged cut (refused number second) = refusal number second
+staged cut (refused why) = refusal why
 
 -- an accepted chart's board, as the chart crate promises it
 pub record Held (b : BoardTables) : Type 0 where

@@ -1,37 +1,44 @@
 -- The walk with an explicit path, against the walk by recursion of `Cutting`: what is left of the walk at a state, and the bound that falls.
 -- Assumes nothing.
-use Rattle.std.specs.Prelude.{ℕ, suc, ◌+◌, ◌-◌, ◌*◌, ◌≤◌, ◌<◌, ◌≡◌, List, [], ◌∷◌, eqb, length, take, drop}
+use Rattle.std.specs.Prelude.{ℕ, suc, ◌+◌, ◌-◌, ◌*◌, ◌≤◌, ◌<◌, ◌≡◌, List, [], ◌∷◌, length, take, drop}
 use Rattle.laws.specs.Lists.{stack_of, tally}
+use Rattle.graph.specs.declared.Item.{Item}
 use Rattle.graph.specs.declared.Tables.{Tables}
-use Rattle.graph.specs.declared.reach.Path.{Path}
 use Rattle.graph.specs.declared.reach.Frame.{Frame}
-use Rattle.graph.specs.Cutting.{mark_from, mark_sinks, unseen}
-use Rattle.graph.specs.code.Tables.{graph_of, owned, items_of}
+use Rattle.graph.specs.declared.reach.Seen.{Seen}
+use Rattle.graph.specs.Graph.{Graph}
+use Rattle.graph.specs.Cutting.{mark_from, mark_sinks, unseen?}
+use Rattle.graph.specs.code.Tables.{graph_of, owned}
+
+-- the walk's state: how each node stands, and the path, the first depth frames
+pub record Path : Type 0 where
+  pub seen : List Seen
+  pub frames : List Frame
+  pub depth : ℕ
 
 abbrev pub no_frame : Frame
 no_frame = record { node = 0; at = 0 }
 
--- the marks once each frame has gone through the rest of its sinks, the last first: d more nodes may stand on the path
-unfoldable pub resume : ℕ → Tables → List ℕ → List Frame → List ℕ
-resume d t v [] = v
-resume d t v (f ∷ fs) =
-    resume (suc d) t (mark_sinks (λ w q. mark_from d (graph_of t) w q) v (owned f.node (drop f.at (items_of t.sinks)))) fs
+-- xs are the records of the sinks. The marks once each frame has gone through the rest of its sinks, the last first: d more nodes may stand on the path
+unfoldable pub resume : ℕ → Graph → List Item → List Seen → List Frame → List Seen
+resume d g xs v [] = v
+resume d g xs v (f ∷ fs) = resume (suc d) g xs (mark_sinks (λ w q. mark_from d g w q) v (owned f.node (drop f.at xs))) fs
 
 -- how many nodes are unseen
-unfoldable pub unseens : List ℕ → ℕ
+unfoldable pub unseens : List Seen → ℕ
 unseens [] = 0
-unseens (x ∷ xs) = tally (eqb x unseen) (unseens xs)
+unseens (x ∷ xs) = tally (unseen? x) (unseens xs)
 
 -- the looks that the frames may still take, and one more for each to leave
 unfoldable pub looks : List Frame → ℕ
 looks [] = 0
 looks (f ∷ fs) = suc (88 - f.at) + looks fs
 
-abbrev pub seen_of : Tables → Path → List ℕ
+abbrev pub seen_of : Tables → Path → List Seen
 seen_of t s = take t.n s.seen
 
-abbrev pub answer : Tables → Path → List ℕ
-answer t s = resume (t.n - s.depth) t (seen_of t s) (stack_of no_frame s.frames s.depth)
+abbrev pub answer : Tables → List Item → Path → List Seen
+answer t xs s = resume (t.n - s.depth) (graph_of t) xs (seen_of t s) (stack_of no_frame s.frames s.depth)
 
 abbrev pub effort : Tables → Path → ℕ
 effort t s = 89 * unseens (seen_of t s) + looks (stack_of no_frame s.frames s.depth)
@@ -43,7 +50,7 @@ pub record Good (t : Tables) (s : Path) : Type 0 where
   pub room : s.depth + unseens (seen_of t s) ≤ t.n
 
 -- r is s one step on
-pub record Stepped (t : Tables) (s r : Path) : Type 0 where
+pub record Stepped (t : Tables) (xs : List Item) (s r : Path) : Type 0 where
   pub good : Good t r
-  pub same : answer t r ≡ answer t s
+  pub same : answer t xs r ≡ answer t xs s
   pub less : effort t r < effort t s

@@ -1,13 +1,15 @@
 -- The graph that the code's tables hold, and what holds of them from step to step.
 -- Assumes nothing.
-use Rattle.std.specs.Prelude.{ℕ, zero, suc, ◌+◌, ◌-◌, ◌*◌, ◌≤◌, ◌<◌, ◌≡◌, true, cond, ◌&&◌, List, [], ◌∷◌, ◌++◌, map, eqb, ltb, length, get_or, set, take, replicate}
+use Rattle.std.specs.Prelude.{ℕ, zero, suc, ◌+◌, ◌*◌, ◌≤◌, ◌<◌, ◌≡◌, true, cond, ◌&&◌, List, [], ◌∷◌, ◌++◌, map, eqb, ltb, length, get_or, set, take, replicate}
 use Rattle.std.proofs.Math.Option.{Option, none, some}
 use Rattle.laws.specs.Lists.{All, one, tabulate, owned_by, tally}
 use Rattle.chart.specs.declared.Item.{Item as GivenItem}
 use Rattle.chart.specs.declared.Line.{Line as LineItem}
 use Rattle.chart.specs.code.Filled.{lines_of as texts_of, owned_lines}
 use Rattle.graph.specs.declared.Item.{Item}
-use Rattle.graph.specs.declared.Table.{Table}
+use Rattle.graph.specs.Items.{Items}
+use Rattle.graph.specs.declared.Name.{Name}
+use Rattle.graph.specs.declared.Name.TheVariants.{Nothing, Number, Invalid}
 use Rattle.graph.specs.declared.Tables.{Tables}
 use Rattle.graph.specs.Completion.{gain_sink, complete_sinks, complete_sources, complete}
 use Rattle.graph.specs.Cutting.{cut_graph}
@@ -30,23 +32,22 @@ edge_of r = record { to = r.to; mark = mark_of r.mark; text = record { at = r.at
 abbrev pub owned : ℕ → List Item → List Edge
 owned = owned_by (λ r. r.owner) edge_of
 
-abbrev pub items_of : Table → List Item
+abbrev pub items_of : Items → List Item
 items_of t = take t.count t.items
 
 -- node p, where ls are the lines of each node, xs the records of the sources and ys those of the sinks
 abbrev pub node_of : List (List Line) → List Item → List Item → ℕ → Node
 node_of ls xs ys p = record { sources = owned p xs; lines = get_or ls p []; sinks = owned p ys }
 
--- the line that is held by the number m: below 256 the Debug text of a node, from 256 on that of a target that is no node, 512 none
-abbrev pub held_line : ℕ → Line
-held_line m = cond (ltb m 256) (number m) (invalid (m - 256))
+-- the line that a name holds: the Debug text of a node or of a target that is no node, or none
+abbrev pub name_line : Name → List Line
+name_line Nothing = []
+name_line (Number q) = one (number q)
+name_line (Invalid t) = one (invalid t)
 
-abbrev pub number_line : ℕ → List Line
-number_line m = cond (eqb m 512) [] (one (held_line m))
-
--- the lines of node p: the given lines that it owns, and the line of its number
-abbrev pub lines_at : List LineItem → List ℕ → ℕ → List Line
-lines_at ts names p = map given (owned_lines p ts) ++ number_line (get_or names p 0)
+-- the lines of node p: the given lines that it owns, and the line of its name
+abbrev pub lines_at : List LineItem → List Name → ℕ → List Line
+lines_at ts names p = map given (owned_lines p ts) ++ name_line (get_or names p Nothing)
 
 abbrev pub lines_of : Tables → List (List Line)
 lines_of t = tabulate (lines_at (texts_of t.lines) t.names) 0 t.n
@@ -96,7 +97,7 @@ pub record Linked (t : Tables) : Type 0 where
 -- ---- the records
 
 -- r is t with the record x after the others
-pub record Pushed (t : Table) (x : Item) (r : Table) : Type 0 where
+pub record Pushed (t : Items) (x : Item) (r : Items) : Type 0 where
   pub items : items_of r ≡ items_of t ++ one x
   pub count : r.count ≡ t.count + 1
   pub whole : r ≡ record { items = set t.items t.count x; count = t.count + 1 }
@@ -122,6 +123,10 @@ gained_in n xs p i q = cond (ltb q n) (gained xs p i q) xs
 -- the record of a sink of q to p
 abbrev pub sink_of : ℕ → ℕ → Item
 sink_of p q = record { owner = q; to = p; mark = 0; at = 0; len = 0 }
+
+-- how many of the first k records c owns
+abbrev pub before : ℕ → ℕ → List Item → ℕ
+before c k ys = length (owned c (take k ys))
 
 -- record k is number s of those that c owns
 pub record Sunk (ys : List Item) (c s k : ℕ) : Type 0 where
@@ -196,19 +201,19 @@ pub record Charted (t : Tables) : Type 0 where
   pub sink_owners : Below t.n (items_of t.sinks)
   pub line_owners : Texted t.n (texts_of t.lines)
   pub bare : Bare (items_of t.sources)
-  pub names : t.names ≡ replicate 48 512
+  pub names : t.names ≡ replicate 48 Nothing
 
 -- tables to be cut: there is room for the records that the cuts to 48 nodes may add
 pub record Roomy (t : Tables) : Type 0 where
   pub linked : Linked t
-  pub source_room : 2 * t.sources.count + 48 ≤ 176 + t.n
-  pub sink_room : 2 * t.sinks.count + 48 ≤ 176 + t.n
-  pub blank : (k : ℕ) → t.n ≤ k → k < 48 → get_or t.names k 0 ≡ 512
+  pub source_room : 2 * length (items_of t.sources) + 48 ≤ 176 + t.n
+  pub sink_room : 2 * length (items_of t.sinks) + 48 ≤ 176 + t.n
+  pub blank : (k : ℕ) → t.n ≤ k → k < 48 → get_or t.names k Nothing ≡ Nothing
 
 -- tables to be joined or cut: the nodes past the last have no line
 pub record Standing (t : Tables) : Type 0 where
   pub owned : Owned t
-  pub blank : (k : ℕ) → t.n ≤ k → k < 48 → get_or t.names k 0 ≡ 512
+  pub blank : (k : ℕ) → t.n ≤ k → k < 48 → get_or t.names k Nothing ≡ Nothing
 
 -- r is t completed
 pub record Completed (t r : Tables) : Type 0 where
@@ -218,11 +223,11 @@ pub record Completed (t r : Tables) : Type 0 where
   pub sink_count : r.sinks.count ≤ 64
   pub standing : Standing r
 
--- r is t where source j of p, record k, has its sink; the record is then held with the mark m
-pub record SinkGained (t : Tables) (p j k : ℕ) (r : Tables) : Type 0 where
+-- r is t where source k has its sink; the record is then held with the mark m
+pub record SinkGained (t : Tables) (k : ℕ) (r : Tables) : Type 0 where
   pub graph :
-      graph_of r
-      ≡ cond (ltb (get_or (items_of t.sources) k no_item).to (length (graph_of t))) (gain_sink (graph_of t) p j (edge_of (get_or (items_of t.sources) k no_item))) (graph_of t)
+      let x : Item = get_or (items_of t.sources) k no_item in
+      graph_of r ≡ cond (ltb x.to (length (graph_of t))) (gain_sink (graph_of t) x.owner (before x.owner k (items_of t.sources)) (edge_of x)) (graph_of t)
   pub linked : Owned r
   pub same : SameBut t r
   pub source_count : r.sources.count ≡ t.sources.count
@@ -249,7 +254,7 @@ pub record Fits (g : Graph) : Type 0 where
   pub sinks : ends (λ (x : Node). x.sinks) g ≤ 88
 
 -- r is t with end i of p, record k on that side, joined
-pub record EndJoined (side : Tables → Table) (step : Graph → ℕ → ℕ → Edge → Graph) (t : Tables) (p i k : ℕ) (r : Tables) : Type 0 where
+pub record EndJoined (side : Tables → Items) (step : Graph → ℕ → ℕ → Edge → Graph) (t : Tables) (p i k : ℕ) (r : Tables) : Type 0 where
   pub graph : graph_of r ≡ step (graph_of t) p i (edge_of (get_or (items_of (side t)) k no_item))
   pub standing : Standing r
   pub cuts : r.cuts ≡ t.cuts
@@ -283,6 +288,7 @@ turn_item q c to x = cond (eqb x.owner q && eqb x.to c) (record { owner = x.owne
 -- r is t with sink s of c, record k, cut
 pub record CutTo (t : Tables) (c s k : ℕ) (r : Tables) : Type 0 where
   pub sound : Roomy r
+  pub named : length r.names ≡ 48
   pub more : r.n ≡ t.n + 2
   pub cuts : r.cuts ≡ t.cuts + 1
   pub lines : r.lines ≡ t.lines

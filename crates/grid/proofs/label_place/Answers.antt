@@ -1,72 +1,86 @@
 -- `label_place`: the promises of `graph`, `sheet_of` and `label_at`, by the laws of `Sheets` and `LabelPlaces`.
 -- Assumes nothing.
-use Prim.Native.Nat.{◌<◌}
-use native.Mathlib.Omega.{arith}
-use mathlib.Core.Path.{◌∙◌}
-use Rattle.grid.proofs.Sheets.{Made, seated, firsts-are, sheet-is}
-use Rattle.grid.proofs.LabelPlaces.{sitting, sited, place-past, place_found, place_none, place-refused}
+use Rattle.std.proofs.Common.{◌≡◌, ◌<◌, refl, ◌∙◌, arith, rules, Option}
+use Rattle.std.specs.Prelude.{Some, None, Err}
+use Rattle.std.specs.Option.{ok_or}
+use Rattle.refusals.specs.declared.Refusal.TheVariants.{NotThere}
+use Rattle.grid.specs.declared.LabelPlace.{LabelPlace}
+use Rattle.grid.specs.code.Rendered.{Seated}
+use Rattle.grid.specs.Labelled.{ready_or_15, labelled, label_place_of}
+use Rattle.grid.proofs.Sheets.{Made, seated, firsts-are, sheet-is, sheet-refused}
+use Rattle.grid.proofs.LabelPlaces.{sited, place-past, place_answer, place-refused}
 use Rattle.graph.proofs.Tabled.{graphs-of}
 use Rattle.grid.proofs.label_place.Goals as goal
-use Rattle.grid.proofs.label_place.Goals.{After-sheet_of-laid, Else-k-g}
+use Rattle.grid.proofs.label_place.Goals.{After-sheet_of, After-label_at, Else-g-k}
 
--- what `sheet_of` hands over is the chart's sheet
-laid : (c : After-sheet_of-laid) → let a = c.args in Made a.setting a.chart.now a.x a.y c.sheet_of-laid.result
+-- what `sheet_of` answers is the chart's sheet
+laid : (c : After-sheet_of) → let a = c.args in Made a.setting a.chart.now a.x a.y c.sheet_of.result
 laid c =
     let f = c.first_in-first in
     let a = c.args in
-    sheet-is a.setting a.chart.now a.x a.y c.graph-r.result (graphs-of _ _ _ c.graph-r.ensures) f.result f.ensures c.sheet_of-laid.result c.sheet_of-laid.ensures
+    sheet-is a.setting a.chart.now a.x a.y c.graph.result (graphs-of _ _ _ c.graph.ensures) c.in_ok-g.g c.in_ok-g.was f.result f.ensures c.sheet_of.result c.sheet_of.ensures
 
--- a box of the graph is one of 48
-few : (c : Else-k-g) → c.args.k < 48
-few c =
-    let a = c.args in
-    let s = sitting a.setting a.chart.now c.graph-r.result (graphs-of _ _ _ c.graph-r.ensures) in
-    omega (arith, c.if-k-g.false, s.linked.nodes)
-
-pub sheet_of-laid-requires : goal.sheet_of-laid-requires
-sheet_of-laid-requires c =
+pub sheet_of-requires : goal.sheet_of-requires
+sheet_of-requires c =
     let w = c.args.setting in
-    let s = c.args.chart.now in record {
-      seated = seated w s c.graph-r.result (graphs-of _ _ _ c.graph-r.ensures) c.first_in-first.result c.first_in-first.ensures;
-      first_columns = firsts-are w s c.graph-r.result (graphs-of _ _ _ c.graph-r.ensures) c.first_in-first.result c.first_in-first.ensures;
+    let s = c.args.chart.now in
+    let a = graphs-of _ _ _ c.graph.ensures in
+    record {
+      seated = seated w s c.graph.result a c.in_ok-g.g c.in_ok-g.was c.first_in-first.result c.first_in-first.ensures;
+      first_columns = firsts-are w s c.graph.result a c.in_ok-g.g c.in_ok-g.was c.first_in-first.result c.first_in-first.ensures;
     }
 
-pub returns-then-k-g : goal.returns-then-k-g
-returns-then-k-g c =
+pub returns-in_err-g : goal.returns-in_err-g
+returns-in_err-g c =
     let a = c.args in
-    c.no_place.ensures
-    ∙ place-past a.setting a.chart.now a.x a.y c.sheet_of-laid.result (laid (goal.at.returns-then-k-g c).After-sheet_of-laid) c.graph-r.result (graphs-of _ _ _ c.graph-r.ensures) c.in-Ready.is a.k a.i
-    c.if-k-g.true
+    let e : c.from_residual.result ≡ Err c.in_err-g.field-0.0 = search rules in
+    e ∙ place-refused a.setting a.chart.now a.x a.y _ (sheet-refused a.setting a.chart.now a.x a.y c.graph.result (graphs-of _ _ _ c.graph.ensures) _ c.in_err-g.was) a.k a.i _ refl
 
-pub box_in-b-requires : goal.box_in-b-requires
-box_in-b-requires c = few (goal.at.box_in-b-requires c).Else-k-g
-
-pub overflow_cast-k : goal.overflow_cast-k
-overflow_cast-k c = omega (arith, few (goal.at.overflow_cast-k c).Else-k-g)
-
-pub label_at-place-requires : goal.label_at-place-requires
-label_at-place-requires c =
+pub returns-in_err-laid : goal.returns-in_err-laid
+returns-in_err-laid c =
     let a = c.args in
-    let z =
-    sited a.setting a.chart.now a.x a.y c.sheet_of-laid.result (laid (goal.at.label_at-place-requires c).After-sheet_of-laid) c.graph-r.result (graphs-of _ _ _ c.graph-r.ensures) c.in-Ready.is a.k c.if-k-g.false in
-    let low = rw (← c.box_in-b.ensures) at z in
-    record { seated = sitting a.setting a.chart.now c.graph-r.result (graphs-of _ _ _ c.graph-r.ensures); p_lt_n = c.if-k-g.false; x_bound = low.0; y_bound = low.1 }
+    let e : c.from_residual-in_err-laid.result ≡ Err c.in_err-laid.field-0.0 = search rules in
+    e ∙ place-refused a.setting a.chart.now a.x a.y c.sheet_of.result (laid (goal.at.returns-in_err-laid c).After-sheet_of) a.k a.i _ c.in_err-laid.was
 
-pub returns-then-place : goal.returns-then-place
-returns-then-place c =
+pub returns-then-g-k : goal.returns-then-g-k
+returns-then-g-k c =
     let a = c.args in
-    place_found a.setting a.chart.now a.x a.y c.sheet_of-laid.result (laid (goal.at.returns-then-place c).After-sheet_of-laid) c.graph-r.result (graphs-of _ _ _ c.graph-r.ensures) c.in-Ready.is a.k a.i
-    c.if-k-g.false c.label_at-place.result (rw c.box_in-b.ensures at c.label_at-place.ensures) c.if-place.true
+    place-past a.setting a.chart.now a.x a.y c.sheet_of.result (laid (goal.at.returns-then-g-k c).After-sheet_of) c.graph.result (graphs-of _ _ _ c.graph.ensures) c.in_ok-g.g c.in_ok-g.was c.in_ok-laid.laid c.in_ok-laid.was a.k a.i
+    c.if-g-k.true
 
-pub returns-in-Ready : goal.returns-in-Ready
-returns-in-Ready c =
-    let a = c.args in
-    c.no_place-in-Ready.ensures
-    ∙ place_none a.setting a.chart.now a.x a.y c.sheet_of-laid.result (laid (goal.at.returns-in-Ready c).After-sheet_of-laid) c.graph-r.result (graphs-of _ _ _ c.graph-r.ensures) c.in-Ready.is a.k a.i
-    c.if-k-g.false c.label_at-place.result (rw c.box_in-b.ensures at c.label_at-place.ensures) c.if-place.false
+-- the graph can be laid out, and a box of it is one of 48
+seat : (c : Else-g-k) → Seated c.in_ok-g.g
+seat c = seated c.args.setting c.args.chart.now c.graph.result (graphs-of _ _ _ c.graph.ensures) c.in_ok-g.g c.in_ok-g.was c.first_in-first.result c.first_in-first.ensures
 
-pub returns-in-Refused : goal.returns-in-Refused
-returns-in-Refused c =
+few : (c : Else-g-k) → c.args.k < 48
+few c = omega (arith, c.if-g-k.false, (seat c).linked.nodes)
+
+pub bounds-laid-k : goal.bounds-laid-k
+bounds-laid-k c = few (goal.at.bounds-laid-k c).Else-g-k
+
+pub offset_bounds-laid-k : goal.offset_bounds-laid-k
+offset_bounds-laid-k c = let h = few (goal.at.offset_bounds-laid-k c).Else-g-k in omega (arith, h)
+
+pub label_at-requires : goal.label_at-requires
+label_at-requires c =
     let a = c.args in
-    let q = c.in-Refused in
-    c.no_place-in-Refused.ensures ∙ place-refused a.setting a.chart.now a.x a.y c.sheet_of-laid.result (laid (goal.at.returns-in-Refused c).After-sheet_of-laid) a.k a.i q.number q.second q.is
+    let p = goal.at.label_at-requires c in
+    let z = sited a.setting a.chart.now a.x a.y c.sheet_of.result (laid p.After-sheet_of) c.graph.result (graphs-of _ _ _ c.graph.ensures) c.in_ok-g.g c.in_ok-g.was c.in_ok-laid.laid c.in_ok-laid.was a.k c.if-g-k.false in
+    record { seated = seat p.Else-g-k; p_lt_n = c.if-g-k.false; x_bound = z.0; y_bound = z.1 }
+
+-- what `label_at` finds is the label, or that there is none
+found : (c : After-label_at) → let a = c.args in label_place_of (ready_or_15 c.label_at.result) ≡ label_place_of (labelled a.setting a.chart.now a.x a.y a.k a.i)
+found c =
+    let a = c.args in
+    let f = c.first_in-first in
+    let g = graphs-of _ _ _ c.graph.ensures in
+    let m = sheet-is a.setting a.chart.now a.x a.y c.graph.result g c.in_ok-g.g c.in_ok-g.was f.result f.ensures c.sheet_of.result c.sheet_of.ensures in
+    place_answer a.setting a.chart.now a.x a.y c.sheet_of.result m c.graph.result (graphs-of _ _ _ c.graph.ensures) c.in_ok-g.g c.in_ok-g.was c.in_ok-laid.laid c.in_ok-laid.was a.k a.i c.if-g-k.false
+    c.label_at.result c.label_at.ensures
+
+pub returns : goal.returns
+returns c = let e : c.ok_or.result ≡ ok_or c.label_at.result NotThere = search rules in e ∙ given c.label_at.result ∙ found (goal.at.returns c).After-label_at
+  where
+    given : (o : Option LabelPlace) → ok_or o NotThere ≡ label_place_of (ready_or_15 o)
+    given (Some p) = refl
+    given None = refl

@@ -1,17 +1,26 @@
--- What the code's arrays hold: the lists of the definitions are the first n.
+-- What the code's arrays hold.
 -- Assumes nothing.
-use Rattle.std.specs.Prelude.{ℕ, zero, suc, ◌+◌, ◌*◌, ◌/◌, ◌%◌, ◌^◌, ◌≤◌, ◌<◌, ◌≡◌, ◌↔◌, Bool, true, false, cond, ◌&&◌, ◌||◌, List, ◌++◌, eqb, replicate, take}
+use Rattle.std.specs.Prelude.{ℕ, zero, suc, ◌+◌, ◌*◌, ◌/◌, ◌%◌, ◌^◌, ◌≤◌, ◌<◌, ◌≡◌, ◌↔◌, Bool, true, false, cond, ◌&&◌, ◌||◌, List, ◌++◌, eqb, length, replicate}
+use Rattle.std.specs.Prelude.{Option, Some, None}
+use Rattle.std.proofs.Math.Option as maybe
 use Rattle.grid.specs.Columns.{at, taken, new_columns}
+
+-- what stands there: the code's `Option` is a type of its own
+abbrev pub held : Option ℕ → maybe.Option ℕ
+held None = maybe.none
+held (Some x) = maybe.some x
 
 -- n boxes, with rows below 48 and columns below 144
 pub record Boxes (n : ℕ) (rows cols : List ℕ) : Type 0 where
   pub few : n ≤ 48
+  pub rows_long : length rows ≡ n
+  pub cols_long : length cols ≡ n
   pub row : (k : ℕ) → k < n → at rows k < 48
   pub column : (k : ℕ) → k < n → at cols k < 144
 
--- the first n are below m
-pub record Inside (n m : ℕ) (xs : List ℕ) : Type 0 where
-  pub below : (k : ℕ) → k < n → at xs k < m
+-- all are below m
+pub record Inside (m : ℕ) (xs : List ℕ) : Type 0 where
+  pub below : (k : ℕ) → k < length xs → at xs k < m
 
 -- the table of used columns has 160 bits for each row, 32 in a word: the word that has the bit of column x in row r
 abbrev pub word_of : ℕ → ℕ → ℕ
@@ -21,18 +30,18 @@ word_of r x = 5 * r + x / 32
 abbrev pub used_in : List ℕ → ℕ → ℕ → Bool
 used_in used r x = eqb (at used (word_of r x) / 2 ^ (x % 32) % 2) 1
 
--- of n boxes, one of row r stands in column x
-abbrev pub Stands : ℕ → List ℕ → List ℕ → ℕ → ℕ → Type 0
-Stands n rows cols r x = (k : ℕ) × (k < n) × (at rows k ≡ r) × (at cols k ≡ x)
+-- of the boxes, one of row r stands in column x
+abbrev pub Stands : List ℕ → List ℕ → ℕ → ℕ → Type 0
+Stands rows cols r x = (k : ℕ) × (k < length rows) × (at rows k ≡ r) × (at cols k ≡ x)
 
--- the table tells of n boxes which places are taken
-abbrev pub Tells : ℕ → List ℕ → List ℕ → List ℕ → Type 0
-Tells n rows cols used = (r x : ℕ) → r < 48 → x < 160 → used_in used r x ≡ taken (take n rows) (take n cols) r x
+-- the table tells of these boxes which places are taken
+abbrev pub Tells : List ℕ → List ℕ → List ℕ → Type 0
+Tells rows cols used = (r x : ℕ) → r < 48 → x < 160 → used_in used r x ≡ taken rows cols r x
 
 -- 'a column is used exactly if a box of that row stands there'; the same as the definition of a fold has it
-pub record Used (n : ℕ) (rows cols used : List ℕ) : Type 0 where
-  pub exactly : (r x : ℕ) → r < 48 → x < 160 → (used_in used r x ≡ true) ↔ Stands n rows cols r x
-  pub tells : Tells n rows cols used
+pub record Used (rows cols used : List ℕ) : Type 0 where
+  pub exactly : (r x : ℕ) → r < 48 → x < 160 → (used_in used r x ≡ true) ↔ Stands rows cols r x
+  pub tells : Tells rows cols used
 
 -- some row below h uses both x and x + 1
 abbrev pub collision_in : List ℕ → ℕ → ℕ → Bool

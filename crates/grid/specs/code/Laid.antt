@@ -1,27 +1,29 @@
 -- What the functions of the sheet answer, over the arrays that they are handed.
 -- Assumes nothing.
-use Rattle.std.specs.Prelude.{ℕ, ◌+◌, ◌*◌, ◌≤◌, ◌<◌, cond, ◌&&◌, List, [], ◌∷◌, ◌++◌, eqb, ltb, get_or, set, replicate, take}
-use Rattle.std.proofs.Math.Option.{Option, none, some}
+use Rattle.std.specs.Prelude.{ℕ, ◌+◌, ◌≤◌, ◌<◌, cond, ◌&&◌, List, [], ◌∷◌, ◌++◌, ltb, get_or, Option, Some, None, Result, Ok, Err}
+use Rattle.std.proofs.Math.Option.{Option as Maybe, none, some}
 use Rattle.laws.specs.Lists.{one, tabulate, padded}
 use Rattle.graph.specs.declared.Item.{Item}
-use Rattle.graph.specs.Graph.{Edge}
-use Rattle.graph.specs.code.Tables.{owned, graph_of}
+use Rattle.graph.specs.Graph.{Edge, Node, node_at}
+use Rattle.graph.specs.code.Tables.{owned, name_line, graph_of}
 use Rattle.grid.specs.declared.BoxRecord.{BoxRecord}
 use Rattle.grid.specs.declared.Curve.{Curve}
 use Rattle.grid.specs.declared.render_node.Run.{Run}
-use Rattle.grid.specs.declared.render_grid.Curves.{Curves}
-use Rattle.grid.specs.declared.render_grid.Found.{Found}
-use Rattle.grid.specs.declared.render_grid.Found.TheVariants.{At, Nothing}
-use Rattle.grid.specs.Record.{no_box, no_curve, no_sheet}
-use Rattle.grid.specs.RenderNode.{Input, Output, inputs_at, outputs_at}
-use Rattle.grid.specs.RenderGrid.{begins, sheet}
-use Rattle.grid.specs.Curves.{output_for, curve_if, record_of}
-use Rattle.chart.specs.declared.Answer.{Answer}
-use Rattle.chart.specs.declared.Answer.TheVariants.{Ready, Refused}
+use Rattle.grid.specs.declared.render_node.Sides.{Sides}
+use Rattle.grid.specs.declared.render_grid.Axis.{Axis}
+use Rattle.grid.specs.declared.render_grid.Axis.TheVariants.{Across, Down}
+use Rattle.tables.specs.declared.Table.{Table}
+use Rattle.tables.specs.Tables.{empty, pushed_if}
+use Rattle.grid.specs.Record.{no_box, no_curve}
+use Rattle.grid.specs.RenderNode.{Input, Output, inputs_at, outputs_at, box_width, box_height}
+use Rattle.grid.specs.RenderGrid.{begins, owner_in}
+use Rattle.grid.specs.Curves.{output_for, curve_if}
+use Rattle.grid.specs.code.Rendered.{inputs_of, outputs_of}
+use Rattle.refusals.specs.declared.Refusal.{Refusal}
+use Rattle.refusals.specs.declared.Refusal.TheVariants.{TooFar}
+use Rattle.graph.specs.declared.Name.TheVariants.{Nothing}
 use Rattle.graph.specs.declared.Tables.{Tables}
-use Rattle.graph.specs.declared.Outcome.{Outcome as Graphing}
 use Rattle.grid.specs.declared.SheetRecord.{SheetRecord}
-use Rattle.grid.specs.declared.Outcome.{Outcome}
 use Rattle.grid.specs.Sheeted.{within}
 
 -- the first n are at most b
@@ -29,53 +31,80 @@ pub record Bounded (b : ℕ) (xs : List ℕ) (n : ℕ) : Type 0 where
   pub most : (k : ℕ) → k < n → get_or xs k 0 ≤ b
 
 -- ---- lines
--- a field of each of the first n boxes, of which the array has 8 numbers: their widths (0) or their heights (1)
-abbrev pub sizes_in : List ℕ → ℕ → ℕ → List ℕ
-sizes_in nodes field n = tabulate (λ k. get_or nodes (8 * k + field) 0) 0 n
+-- the line of an axis that a box stands in, its size along the axis, and the gap between two lines
+abbrev pub line_of : Axis → BoxRecord → ℕ
+line_of Across b = b.column
+line_of Down b = b.row
+
+abbrev pub size_of : Axis → BoxRecord → ℕ
+size_of Across b = b.width
+size_of Down b = b.height
+
+abbrev pub gap_of : Axis → ℕ
+gap_of Across = 1024
+gap_of Down = 2048
 
 abbrev pub begins_to : ℕ → List ℕ → List ℕ → ℕ → List ℕ
 begins_to gap places sizes k = padded 144 0 (tabulate (begins gap places sizes) 0 k)
 
 -- ---- boxes
--- the owner of box k, whose node has the line that is held by the number m: 512 is none, below 256 a given node's number
-abbrev pub owner_by : ℕ → ℕ → ℕ
-owner_by m k = cond (eqb m 512) k (cond (ltb m 256) m 255)
-
--- box k, where columns begin at xs and rows at ys
-abbrev pub box_from : List ℕ → List ℕ → List ℕ → List ℕ → List ℕ → List ℕ → ℕ → BoxRecord
-box_from names nodes xs ys cols rows k =
+-- box k before it has a place
+abbrev pub sized : Tables → List ℕ → List ℕ → ℕ → BoxRecord
+sized g rows cols k =
     record {
-      x = get_or xs (get_or cols k 0) 0;
-      y = get_or ys (get_or rows k 0) 0;
-      width = get_or nodes (8 * k) 0;
-      height = get_or nodes (8 * k + 1) 0;
+      x = 0;
+      y = 0;
+      width = box_width (node_at (graph_of g) k);
+      height = box_height (node_at (graph_of g) k);
       column = get_or cols k 0;
       row = get_or rows k 0;
-      owner = owner_by (get_or names k 0) k;
+      owner = owner_in k (name_line (get_or g.names k Nothing));
     }
 
-abbrev pub boxes_from : List ℕ → List ℕ → List ℕ → List ℕ → List ℕ → List ℕ → ℕ → List BoxRecord
-boxes_from names nodes xs ys cols rows n = padded 48 no_box (tabulate (box_from names nodes xs ys cols rows) 0 n)
+abbrev pub sized_in : Tables → List ℕ → List ℕ → List BoxRecord
+sized_in g rows cols = tabulate (sized g rows cols) 0 g.n
+
+-- a box in its place, where columns begin at xs and rows at ys
+abbrev pub placed_at : List ℕ → List ℕ → BoxRecord → BoxRecord
+placed_at xs ys b =
+    record {
+      x = get_or xs b.column 0;
+      y = get_or ys b.row 0;
+      width = b.width;
+      height = b.height;
+      column = b.column;
+      row = b.row;
+      owner = b.owner;
+    }
 
 -- ---- points in their final places
--- `translate`: the inputs (from 2 on) or the outputs (from 5 on) of box k
-abbrev pub run_at : List ℕ → List ℕ → List ℕ → List ℕ → List ℕ → ℕ → ℕ → Run
-run_at nodes xs ys cols rows from k =
-    record {
-      x = get_or nodes (8 * k + from) 0 + get_or xs (get_or cols k 0) 0;
-      y = get_or nodes (8 * k + from + 1) 0 + get_or ys (get_or rows k 0) 0;
-      gap = get_or nodes (8 * k + from + 2) 0;
-    }
+abbrev pub no_sides : Sides
+no_sides = record { inputs = record { x = 0; y = 0; gap = 0 }; outputs = record { x = 0; y = 0; gap = 0 } }
+
+abbrev pub sides_of : Node → Sides
+sides_of n = record { inputs = inputs_of n; outputs = outputs_of n }
+
+abbrev pub sides_in : Tables → List Sides
+sides_in g = tabulate (λ k. sides_of (node_at (graph_of g) k)) 0 g.n
+
+-- `translate`
+abbrev pub moved : Run → BoxRecord → Run
+moved r b = record { x = r.x + b.x; y = r.y + b.y; gap = r.gap }
+
+-- the inputs, and the outputs, of each of these boxes
+abbrev pub inputs_in : List Sides → List BoxRecord → ℕ → Run
+inputs_in ss bs k = moved (get_or ss k no_sides).inputs (get_or bs k no_box)
+
+abbrev pub outputs_in : List Sides → List BoxRecord → ℕ → Run
+outputs_in ss bs k = moved (get_or ss k no_sides).outputs (get_or bs k no_box)
 
 -- the numbers are small enough for the sums
-pub record Movable (nodes xs ys cols rows : List ℕ) (from k : ℕ) : Type 0 where
-  pub column : get_or cols k 0 ≤ 143
-  pub row : get_or rows k 0 ≤ 143
-  pub first : get_or nodes (8 * k + from) 0 ≤ 8389000
-  pub height : get_or nodes (8 * k + from + 1) 0 ≤ 200000
-  pub gap : get_or nodes (8 * k + from + 2) 0 ≤ 8389000
-  pub across : get_or xs (get_or cols k 0) 0 ≤ 1250000000
-  pub down : get_or ys (get_or rows k 0) 0 ≤ 1250000000
+pub record Near (r : Run) (b : BoxRecord) : Type 0 where
+  pub first : r.x ≤ 8389000
+  pub height : r.y ≤ 200000
+  pub gap : r.gap ≤ 8389000
+  pub across : b.x ≤ 1250000000
+  pub down : b.y ≤ 1250000000
 
 pub record Low (r : Run) : Type 0 where
   pub first : r.x ≤ 1300000000
@@ -89,20 +118,23 @@ laid_inputs r es = inputs_at r.gap r.x r.y es
 
 -- ---- curves
 -- the output's x
-abbrev pub found_of : Option Output → Found
-found_of none = Nothing
-found_of (some o) = At o.x
+abbrev pub found_of : Maybe Output → Option ℕ
+found_of none = None
+found_of (some o) = Some o.x
 
-abbrev pub curve_of : Found → ℕ → ℕ → ℕ → List Curve
-curve_of (At x0) y0 x1 y1 = one (record { x0 = x0; y0 = y0; x1 = x1; y1 = y1 })
-curve_of Nothing y0 x1 y1 = []
+abbrev pub curve_of : Option ℕ → ℕ → ℕ → ℕ → List Curve
+curve_of (Some x0) y0 x1 y1 = one (record { x0 = x0; y0 = y0; x1 = x1; y1 = y1 })
+curve_of None y0 x1 y1 = []
+
+abbrev pub Curves : Type 0
+Curves = Table Curve 88
 
 abbrev pub no_curves : Curves
-no_curves = record { curves = replicate 88 no_curve; drawn = 0 }
+no_curves = empty 88 no_curve
 
 -- one curve more, while there is room
 abbrev pub added : Curves → Curve → Curves
-added s c = cond (ltb s.drawn 88) (record { curves = set s.curves s.drawn c; drawn = s.drawn + 1 }) s
+added s c = pushed_if (ltb s.count 88) s c
 
 abbrev pub add_all : Curves → List Curve → Curves
 add_all s [] = s
@@ -118,13 +150,5 @@ abbrev pub curves_at : List Item → List Item → (ℕ → Run) → (ℕ → Ru
 curves_at xs ys ins outs k s = add_all s (curves_over ys outs k (laid_inputs (ins k) (owned k xs)))
 
 -- 14, of a sheet's record
-abbrev pub fitted_of : SheetRecord → Outcome
-fitted_of s = cond (within s.x s.width && within s.y s.height) (record { answer = Ready; sheet = s }) (record { answer = Refused 14 0; sheet = no_sheet })
-
--- the sheet of an answer's graph with these first columns, or its refusal
-abbrev pub arranged_by : Answer → Tables → List ℕ → ℕ → ℕ → Outcome
-arranged_by Ready g first x y = fitted_of (record_of (sheet (graph_of g) g.cuts (take g.n first)) x y)
-arranged_by (Refused number second) g first x y = record { answer = Refused number second; sheet = no_sheet }
-
-abbrev pub arranged_of : Graphing → List ℕ → ℕ → ℕ → Outcome
-arranged_of w first x y = arranged_by w.answer w.graph first x y
+abbrev pub fitted_of : SheetRecord → Result SheetRecord Refusal
+fitted_of s = cond (within s.x s.width && within s.y s.height) (Ok s) (Err TooFar)

@@ -1,6 +1,6 @@
 -- Where the sources and the sinks of each node lead, node by node in one array: those of node p stand from bounds[2 p] up to bounds[2 p + 1], and from there up to bounds[2 p + 2].
 -- Assumes nothing.
-use Rattle.std.specs.Prelude.{ℕ, ◌+◌, ◌-◌, ◌*◌, ◌≤◌, ◌<◌, ◌≡◌, List, take, drop}
+use Rattle.std.specs.Prelude.{ℕ, ◌+◌, ◌-◌, ◌*◌, ◌≤◌, ◌<◌, List, take, drop}
 use Rattle.laws.specs.Lists.{tabulate}
 use Rattle.graph.specs.Shape.{Incidents, Shape}
 use Rattle.grid.specs.Columns.{at}
@@ -23,7 +23,6 @@ shape_in n to bounds = tabulate (leads_at to bounds) 0 n
 -- the bounds rise and end within the array, and each end leads to a node
 pub record Led (n : ℕ) (to bounds : List ℕ) : Type 0 where
   pub nodes : n ≤ 48
-  pub first : at bounds 0 ≡ 0
   pub rising : (i : ℕ) → i < 2 * n → at bounds i ≤ at bounds (i + 1)
   pub few : at bounds (2 * n) ≤ 176
   pub node : (k : ℕ) → k < at bounds (2 * n) → at to k < n

@@ -1,8 +1,8 @@
 -- What the code holds of a node: the numbers of `RenderNode::new`.
 -- Assumes nothing.
-use Rattle.std.specs.Prelude.{ℕ, ◌+◌, ◌-◌, ◌*◌, ◌/◌, ◌≤◌, ◌<◌, max, ◌≡◌, cond, List, [], ◌∷◌, map, eqb, ltb, length, get_or}
+use Rattle.std.specs.Prelude.{ℕ, ◌+◌, ◌-◌, ◌*◌, ◌/◌, ◌≤◌, max, cond, List, map, eqb, ltb, length, ◌≡◌}
 use Rattle.graph.specs.declared.Tables.{Tables}
-use Rattle.graph.specs.Graph.{Edge, Line, Node, Graph, node_at}
+use Rattle.graph.specs.Graph.{Edge, Line, Node}
 use Rattle.graph.specs.code.Tables.{Linked}
 use Rattle.grid.specs.declared.render_node.Ends.{Ends}
 use Rattle.grid.specs.declared.render_node.Center.{Center}
@@ -92,20 +92,10 @@ pub record Modest (r : RenderNode) : Type 0 where
   pub center_x : r.cx ≤ 8389000
   pub center_y : r.cy ≤ 200000
 
--- ---- the boxes of a graph
--- a box's numbers as the code holds them
-abbrev pub numbers_of : RenderNode → List ℕ
-numbers_of r =
-    r.width ∷ r.height ∷ r.inputs.x ∷ r.inputs.y ∷ r.inputs.gap ∷ r.outputs.x ∷ r.outputs.y ∷ r.outputs.gap ∷ []
-
--- the array has those of the first n nodes, 8 for each
-pub record Noted (g : Graph) (n : ℕ) (xs : List ℕ) : Type 0 where
-  pub number : (k : ℕ) → k < n → (i : ℕ) → i < 8 → get_or xs (8 * k + i) 0 ≡ get_or (numbers_of (render_of (node_at g k))) i 0
-
-abbrev pub AllModest : Graph → ℕ → Type 0
-AllModest g n = (p : ℕ) → p < n → Modest (render_of (node_at g p))
-
--- the tables of a graph that can be laid: they are linked, and the lines are within their array
+-- the tables of a graph that can be laid: they are linked, the lines are within their array, and those of the ends are whole
 pub record Seated (g : Tables) : Type 0 where
   pub linked : Linked g
   pub line_room : g.lines.count ≤ 128
+  -- the arrays are as long as they are declared
+  pub sources_long : length g.sources.items ≡ 88
+  pub sinks_long : length g.sinks.items ≡ 88

@@ -1,11 +1,8 @@
--- `is_default`: the first byte, if there is one.
+-- `is_default`: the test of the first byte.
 -- Assumes nothing.
-use Rattle.lines.proofs.Laws.{default_none, default_first}
-use borrow.Author.Rules.{rules}
+use Rattle.std.proofs.Common.{◌∙◌}
+use Rattle.lines.proofs.Laws.{starts}
 use Rattle.lines.proofs.is_default.Goals as goal
 
-pub returns-then-line-eq0 : goal.returns-then-line-eq0
-returns-then-line-eq0 c = default_none _ c.if-line-eq0.true
-
 pub returns : goal.returns
-returns c = default_first _ (search rules)
+returns c = c.starts_with.ensures.value ∙ starts c.args.line.now

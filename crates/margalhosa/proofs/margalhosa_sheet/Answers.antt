@@ -1,13 +1,21 @@
--- `margalhosa_sheet`: the answer of `grid::sheet`, with its box theorem. Assumes nothing.
+-- `margalhosa_sheet`: the answer of `grid::sheet`, with its box theorem.
+-- Assumes nothing.
+use mathlib.Core.Path.{◌∙◌, sym, ap}
 use Rattle.grid.specs.LaidOut.{IsSheet}
-use Rattle.margalhosa.specs.Results.{setting_of}
+use Rattle.margalhosa.specs.Results.{setting_of, sheet_result}
 use Rattle.margalhosa.proofs.Results.{sheet-is}
 use Rattle.margalhosa.proofs.margalhosa_sheet.Goals as goal
 
-pub returns : goal.returns
-returns c =
+pub returns-in-Ok : goal.returns-in-Ok
+returns-in-Ok c =
     let a = c.args in
     let w = setting_of a.setting in
-    let o = c.sheet-r.result in
-    let is : IsSheet w a.chart.now a.x a.y o = rw c.setting_of.ensures at c.sheet-r.ensures in
-    sheet-is w a.chart.now a.x a.y o is c.first_of.result c.second_of.result c.first_of.ensures c.second_of.ensures
+    let is : IsSheet w a.chart.now a.x a.y c.sheet.result = rw c.setting_of.ensures at c.sheet.ensures in
+    sheet-is w a.chart.now a.x a.y c.sheet.result is c.sheet_by.result (c.sheet_by.ensures ∙ sym (ap sheet_result c.in-Ok.is))
+
+pub returns-in-Err : goal.returns-in-Err
+returns-in-Err c =
+    let a = c.args in
+    let w = setting_of a.setting in
+    let is : IsSheet w a.chart.now a.x a.y c.sheet.result = rw c.setting_of.ensures at c.sheet.ensures in
+    sheet-is w a.chart.now a.x a.y c.sheet.result is c.sheet_by-in-Err.result (c.sheet_by-in-Err.ensures ∙ rw (c.first_of.ensures, c.second_of.ensures, c.no_sheet.ensures, c.in-Err.is))

@@ -1,4 +1,4 @@
--- `drawn`: the first columns of the arrays of ends are those of the graph.
+-- `drawn`: the first columns of the leads are those of the graph.
 -- Assumes nothing.
 use mathlib.Core.Path.{◌≡◌}
 use lib.ListN.{length}
@@ -14,18 +14,19 @@ sources-long c = search (rules, mapped_long)
 sinks-long : (c : Start) → length c.args.g.sinks.items ≡ 88
 sinks-long c = search (rules, mapped_long)
 
-pub first_of-columns-requires : goal.first_of-columns-requires
-first_of-columns-requires c =
+pub first_of-requires : goal.first_of-requires
+first_of-requires c =
     let t = c.args.g in
-    record { linked = rw c.ends_of.ensures (sources-linked t (sources-long (goal.at.first_of-columns-requires c).Start) (sinks-long (goal.at.first_of-columns-requires c).Start) c.requires); linked_2 = rw c.ends_of-2.ensures (sinks-linked t (sources-long (goal.at.first_of-columns-requires c).Start) (sinks-long (goal.at.first_of-columns-requires c).Start) c.requires) }
+    let s = (goal.at.first_of-requires c).Start in
+    record {
+      linked = rw c.ends_of-sources.ensures (sources-linked t (sources-long s) (sinks-long s) c.requires);
+      linked_2 = rw c.ends_of-sinks.ensures (sinks-linked t (sources-long s) (sinks-long s) c.requires);
+    }
 
 pub returns : goal.returns
 returns c =
     let t = c.args.g in
-    cc (
-      size t (sources-long (goal.at.returns c).Start) (sinks-long (goal.at.returns c).Start) c.requires,
-      whole t (sources-long (goal.at.returns c).Start) (sinks-long (goal.at.returns c).Start) c.requires,
-      c.first_of-columns.ensures.columns,
-      c.ends_of.ensures,
-      c.ends_of-2.ensures,
-    )
+    let s = (goal.at.returns c).Start in
+    let n = size t (sources-long s) (sinks-long s) c.requires in
+    let w = whole t (sources-long s) (sinks-long s) c.requires in
+    cc (n, w, c.first_of.ensures.columns, c.ends_of-sources.ensures, c.ends_of-sinks.ensures)

@@ -1,25 +1,21 @@
--- The codes as they are written, list by list, node by node. Not document 01's words: `Against` has those, and the laws in
+-- The codes as they are pushed, list by list, node by node. Not document 01's words: `Against` has those, and the laws in
 -- proofs/Pushed.antt say that the two agree.
 -- Assumes nothing.
-use Rattle.std.specs.Prelude.{ℕ, suc, ◌+◌, ◌-◌, ◌/◌, List, [], ◌∷◌, ◌++◌, map, leb, length, get_or}
-use Rattle.laws.specs.Lists.{tabulate}
+use Rattle.std.specs.Prelude.{ℕ, suc, ◌+◌, ◌/◌, ◌≡◌, List, [], ◌∷◌, ◌++◌, map, leb, length, take}
+use Rattle.laws.specs.Lists.{padded}
+use Rattle.tables.specs.declared.Table.{Table}
 use Rattle.graph.specs.Shape.{Incidents}
-use Rattle.order.specs.Against.{Against, against, reversed_if, neighbours, of_node}
+use Rattle.order.specs.Against.{Against, reversed_if, neighbours, of_node}
 use Rattle.order.specs.code.Sums.{code_of}
 
--- the codes of the neighbours among the first c of ts
-abbrev pub neighbour_code : List ℕ → ℕ → ℕ
-neighbour_code ts k = code_of (against (get_or ts k 0) (get_or ts (k + 1) 0))
+-- the table of these targets
+abbrev pub held : List ℕ → Table ℕ 88
+held ts = record { items = padded 88 0 ts; count = length ts }
 
-abbrev pub neighbour_codes : List ℕ → ℕ → List ℕ
-neighbour_codes ts c = tabulate (neighbour_code ts) 0 (c - 1)
-
--- the codes of p against each of the first c of ts, reversed from number turn on
-abbrev pub pair_code : ℕ → ℕ → List ℕ → ℕ → ℕ
-pair_code p turn ts k = code_of (reversed_if (leb turn k) p (get_or ts k 0))
-
-abbrev pub pair_codes : ℕ → ℕ → List ℕ → ℕ → List ℕ
-pair_codes p turn ts c = tabulate (pair_code p turn ts) 0 c
+-- u is t with xs pushed
+pub record Pushed (t u : Table ℕ 352) (xs : List ℕ) : Type 0 where
+  pub list : take u.count u.items ≡ take t.count t.items ++ xs
+  pub count : u.count ≡ t.count + length xs
 
 -- p against each of qs, which are those from number i on, reversed from number turn on
 abbrev pub with_from : ℕ → ℕ → ℕ → List ℕ → List Against

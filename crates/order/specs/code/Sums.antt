@@ -1,11 +1,11 @@
 -- The pair sums as the code holds them: a table of 1,128 numbers, each both sums of a pair, row by row; and one node against another as
 -- one number. Not document 01's words: `Weights` and `Chains` have those.
 -- Assumes nothing.
-use Rattle.std.specs.Prelude.{ℕ, zero, suc, ◌+◌, ◌-◌, ◌*◌, ◌/◌, ◌%◌, ◌≤◌, ◌<◌, Bool, true, false, cond, ◌||◌, ◌≡◌, List, map, eqb, ltb, length, get_or, set, take}
+use Rattle.std.specs.Prelude.{ℕ, zero, suc, ◌+◌, ◌-◌, ◌*◌, ◌/◌, ◌%◌, ◌≤◌, ◌<◌, Bool, true, false, cond, ◌||◌, ◌≡◌, List, [], map, eqb, ltb, length, get_or, set}
 use Rattle.graph.specs.Shape.{Shape}
 use Rattle.order.specs.Against.{Against, all}
 use Rattle.order.specs.Claims.{Aimed}
-use Rattle.order.specs.code.Keys.{inserted_of}
+use Rattle.order.specs.code.Keys.{placed_key}
 use Rattle.order.specs.Weights.{Table, before_of, after_of, weights}
 
 -- how far on the row of a stands, and the place of the pair of a and b, a < b
@@ -25,11 +25,11 @@ first_in k = k / 64
 abbrev pub second_in : ℕ → ℕ
 second_in k = k % 64
 
--- both nodes of each of the first c codes are below n
-pub record Coded (n : ℕ) (cs : List ℕ) (c : ℕ) : Type 0 where
+-- both nodes of each code are below n
+pub record Coded (n : ℕ) (cs : List ℕ) : Type 0 where
   pub few : n ≤ 48
-  pub first : (k : ℕ) → k < c → first_in (get_or cs k 0) < n
-  pub second : (k : ℕ) → k < c → second_in (get_or cs k 0) < n
+  pub first : (k : ℕ) → k < length cs → first_in (get_or cs k 0) < n
+  pub second : (k : ℕ) → k < length cs → second_in (get_or cs k 0) < n
 
 -- both sums of a pair as one number, so that one addition adds both: x before and y after
 abbrev pub sums_of : ℕ → ℕ → ℕ
@@ -48,9 +48,9 @@ abbrev pub key_at : List ℕ → ℕ → ℕ → ℕ
 key_at l p q = cond (eqb p q) (p * 64 + q) (cond (ltb p q) (turn_key (at l p q) p q) (turn_key (at l q p) q p))
 
 -- the keys of the first k codes, each placed among those before it
-unfoldable pub keys_after : List ℕ → List ℕ → List ℕ → ℕ → List ℕ
-keys_after cs l ks zero = ks
-keys_after cs l ks (suc k) = inserted_of (keys_after cs l ks k) k (key_at l (first_in (get_or cs k 0)) (second_in (get_or cs k 0)))
+unfoldable pub keys_after : List ℕ → List ℕ → ℕ → List ℕ
+keys_after cs l zero = []
+keys_after cs l (suc k) = placed_key (key_at l (first_in (get_or cs k 0)) (second_in (get_or cs k 0))) (keys_after cs l k)
 
 -- v more for the pair of a and b
 abbrev pub raised : List ℕ → ℕ → ℕ → ℕ → List ℕ
@@ -140,24 +140,23 @@ pub record RoundFits (make : Bool) (n : ℕ) (t : List ℕ) : Type 0 where
   pub few : n ≤ 48
   pub fits : (a c : ℕ) → a < c → c < n → round_at make t a c < 4294967296
 
--- the first c codes are those of a graph of at most 48 nodes, in order
-pub record Codes (g : Shape) (xs : List ℕ) (c : ℕ) : Type 0 where
+-- the codes are those of a graph of at most 48 nodes, in order
+pub record Codes (g : Shape) (xs : List ℕ) : Type 0 where
   pub few : length g ≤ 48
   pub aimed : Aimed (length g) g
-  pub room : c ≤ 352
-  pub size : length (all g) ≡ c
-  pub same : take c xs ≡ map code_of (all g)
+  pub room : length xs ≤ 352
+  pub same : xs ≡ map code_of (all g)
 
--- the first c codes are those of some graph of n nodes
-pub record Charted (xs : List ℕ) (c n : ℕ) : Type 0 where
+-- the codes are those of some graph of n nodes
+pub record Charted (xs : List ℕ) (n : ℕ) : Type 0 where
   pub graph : Shape
   pub size : length graph ≡ n
-  pub codes : Codes graph xs c
+  pub codes : Codes graph xs
 
 -- the table s has the sums of the pair table t of n nodes
 abbrev pub Hold : ℕ → Table → List ℕ → Type 0
 Hold n t s = (a b : ℕ) → a < b → b < n → at s a b ≡ sums_of (before_of a b t) (after_of a b t)
 
--- s has the weights of each graph of n nodes whose codes are the first c
-abbrev pub Weighed : List ℕ → ℕ → ℕ → List ℕ → Type 0
-Weighed xs c n s = (g : Shape) → Codes g xs c → length g ≡ n → Hold (length g) (weights g) s
+-- s has the weights of each graph of n nodes whose codes these are
+abbrev pub Weighed : List ℕ → ℕ → List ℕ → Type 0
+Weighed xs n s = (g : Shape) → Codes g xs → length g ≡ n → Hold (length g) (weights g) s

@@ -1,42 +1,34 @@
 -- `label_part`: `part_of` is asked for a part that lies within, by the laws of `LabelCalls`.
 -- Assumes nothing.
-use mathlib.Core.Path.{subst}
 use Prim.Native.Nat.{ℕ}
 use mathlib.Core.List.{List}
-use lib.ListN.{length, get_or}
+use lib.ListN.{get_or}
 use mir.Syntax.{w8}
 use mir.Val.{Fits}
 use native.Mathlib.Omega.{arith}
 use Rattle.graph.proofs.Gathers.{Bytes}
-use Rattle.grid.specs.Labelled.{labelled}
-use Rattle.path.specs.Label.{Place, IsAt, tabled}
-use Rattle.path.proofs.LabelCalls.{number_small, fixed_part, given-part, refused-part, is_label_part}
+use Rattle.path.proofs.LabelCalls.{number_small, found_part, no_part}
 use Rattle.path.proofs.label_part.Goals as goal
+use Rattle.path.proofs.label_part.Goals.{After-find_label}
 
 -- the chart is made of bytes
 bytes_of : (s : List ℕ) → ((i : ℕ) → Fits w8 (get_or s i 0)) → Bytes s
 bytes_of s h i = omega (arith, h i)
 
-pub stand_in-s-requires : goal.stand_in-s-requires
-stand_in-s-requires c =
-    let a = c.args in
-    number_small a.setting a.chart.now a.table.now (bytes_of a.chart.now c.type_inv.chart) a.x a.y a.k a.i c.find_label-l.result c.find_label-l.ensures c.in-Ready.is c.if-place.true
+bytes : (c : After-find_label) → Bytes c.args.chart.now
+bytes c = bytes_of c.args.chart.now c.type_inv.chart
 
-pub returns-then-place : goal.returns-then-place
-returns-then-place c =
+pub range_of-requires : goal.range_of-requires
+range_of-requires c =
     let a = c.args in
-    let e = fixed_part a.setting a.chart.now a.table.now (bytes_of a.chart.now c.type_inv.chart) a.x a.y a.k a.i c.find_label-l.result c.find_label-l.ensures c.in-Ready.is c.if-place.true c.stand_in-s.result c.stand_in-s.ensures (length a.chart.now) in
-    is_label_part a.setting a.chart a.table (bytes_of a.chart.now c.type_inv.chart) a.x a.y a.k a.i _ (subst (λ (z : Place). IsAt z a.chart a.table c.part_of.result) e c.part_of.ensures)
+    record { number = number_small a.setting a.chart.now a.table.now (bytes (goal.at.range_of-requires c).After-find_label) a.x a.y a.k a.i c.find_label.result c.find_label.ensures c.in-Ok.place c.in-Ok.is }
 
-pub returns-in-Ready : goal.returns-in-Ready
-returns-in-Ready c =
+pub returns-in-Ok : goal.returns-in-Ok
+returns-in-Ok c =
     let a = c.args in
-    let e = given-part a.setting a.chart.now a.table.now (bytes_of a.chart.now c.type_inv.chart) a.x a.y a.k a.i c.find_label-l.result c.find_label-l.ensures c.in-Ready.is c.if-place.false c.text_end-end.result c.text_end-end.ensures (length a.table.now) in
-    is_label_part a.setting a.chart a.table (bytes_of a.chart.now c.type_inv.chart) a.x a.y a.k a.i _ (subst (λ (z : Place). IsAt z a.chart a.table c.part_of-in-Ready.result) e c.part_of-in-Ready.ensures)
+    found_part a.setting a.chart a.table (bytes (goal.at.returns-in-Ok c).After-find_label) a.x a.y a.k a.i c.find_label.result c.find_label.ensures c.part_of.result c.in-Ok.place c.in-Ok.is c.range_of.result c.range_of.ensures c.part_of.ensures
 
-pub returns-in-Refused : goal.returns-in-Refused
-returns-in-Refused c =
+pub returns-in-Err : goal.returns-in-Err
+returns-in-Err c =
     let a = c.args in
-    let q = c.in-Refused in
-    let e = refused-part a.chart.now (tabled a.table.now (labelled a.setting a.chart.now a.x a.y a.k a.i)) c.find_label-l.result q.field-0 q.field-1 (length a.chart.now) (length a.table.now) c.find_label-l.ensures q.is in
-    is_label_part a.setting a.chart a.table (bytes_of a.chart.now c.type_inv.chart) a.x a.y a.k a.i _ (subst (λ (z : Place). IsAt z a.chart a.table c.part_of-in-Refused.result) e c.part_of-in-Refused.ensures)
+    no_part a.setting a.chart a.table (bytes (goal.at.returns-in-Err c).After-find_label) a.x a.y a.k a.i c.find_label.result c.find_label.ensures c.part_of-in-Err.result c.in-Err.field-0 c.in-Err.is c.part_of-in-Err.ensures

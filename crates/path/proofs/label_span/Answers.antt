@@ -1,70 +1,63 @@
--- `label_span`: the numbers of `find_label`'s place, or of `stand_in`'s, by the laws of `LabelCalls`.
+-- `label_span`: the numbers of the label's range, by the laws of `LabelCalls`.
 -- Assumes nothing.
 use lib.ListN.{get_or}
-use Prim.Native.Nat.{ℕ, ◌≤◌}
+use Prim.Native.Nat.{ℕ, ◌≤◌, ◌<◌}
 use mir.Syntax.{w8}
 use mir.Val.{Fits}
 use native.Mathlib.Omega.{arith}
+use mathlib.Core.Path.{◌≡◌, ◌∙◌, ap}
 use mathlib.Core.List.{List}
-use Rattle.graph.proofs.Gathers.{Bytes}
-use Rattle.grid.specs.Labelled.{labelled}
-use Rattle.path.specs.Label.{tabled}
-use Rattle.path.proofs.LabelCalls.{number_small, span_fits, fixed_span, given-span, refused-span, is_label_span}
-use Rattle.chart.proofs.Gives.{ending-from}
-use Rattle.path.proofs.Labels.{ending-most}
 use borrow.Author.Rules.{rules}
+use Rattle.std.specs.Prelude.{Result, Err}
+use Rattle.grid.specs.Labelled.{labelled}
+use Rattle.graph.proofs.Gathers.{Bytes}
+use Rattle.path.specs.Label.{tabled, span_in}
+use Rattle.path.proofs.LabelCalls.{refusal-is, number_small, Lain, lain, span-is, is_label_span}
 use Rattle.path.proofs.label_span.Goals as goal
+use Rattle.path.proofs.label_span.Goals.{After-find_label, After-range_of-part}
 
 -- the chart is made of bytes
 bytes_of : (s : List ℕ) → ((i : ℕ) → Fits w8 (get_or s i 0)) → Bytes s
 bytes_of s h i = omega (arith, h i)
 
-pub stand_in-s-requires : goal.stand_in-s-requires
-stand_in-s-requires c =
+bytes : (c : After-find_label) → Bytes c.args.chart.now
+bytes c = bytes_of c.args.chart.now c.type_inv.chart
+
+pub returns-in_err-place : goal.returns-in_err-place
+returns-in_err-place c =
     let a = c.args in
-    number_small a.setting a.chart.now a.table.now (bytes_of a.chart.now c.type_inv.chart) a.x a.y a.k a.i c.find_label-l.result c.find_label-l.ensures c.in-Ready.is c.if-place.true
+    let e : c.from_residual.result ≡ Err c.in_err-place.field-0.0 = search rules in
+    let l = tabled a.table.now (labelled a.setting a.chart.now a.x a.y a.k a.i) in
+    is_label_span a.setting a.chart.now a.table.now (bytes (goal.at.returns-in_err-place c).After-find_label) a.x a.y a.k a.i c.from_residual.result
+    (e ∙ rw (refusal-is l c.find_label.result c.in_err-place.field-0.0 c.find_label.ensures c.in_err-place.was))
+
+pub range_of-part-requires : goal.range_of-part-requires
+range_of-part-requires c =
+    let a = c.args in
+    record { number = number_small a.setting a.chart.now a.table.now (bytes (goal.at.range_of-part-requires c).After-find_label) a.x a.y a.k a.i c.find_label.result c.find_label.ensures c.in_ok-place.place c.in_ok-place.was }
+
+-- the part lies in the chart or in the table
+part : (c : After-range_of-part) → (c.range_of-part.result.start ≤ c.range_of-part.result.end) × (c.range_of-part.result.end ≤ 66045)
+part c =
+    let a = c.args in
+    let p = c.in_ok-place.place in
+    let at : p.at < 65536 = search rules in
+    let len : p.len < 256 = search rules in
+    let l = lain a.setting a.chart.now a.table.now (bytes_of a.chart.now c.type_inv.chart) a.x a.y a.k a.i c.find_label.result c.find_label.ensures c.in_ok-place.place c.in_ok-place.was c.range_of-part.result c.range_of-part.ensures in
+    (l.rises, l.short at len)
 
 pub overflow_cast-result : goal.overflow_cast-result
-overflow_cast-result c =
-    let a = c.args in
-    let w = span_fits a.setting a.chart.now a.table.now (bytes_of a.chart.now c.type_inv.chart) a.x a.y a.k a.i c.find_label-l.result c.find_label-l.ensures c.in-Ready.is c.if-place.true c.stand_in-s.result c.stand_in-s.ensures in
-    omega (arith, w.0, w.1)
+overflow_cast-result c = let h = part (goal.at.overflow_cast-result c).After-range_of-part in omega (arith, h.0, h.1)
 
 pub overflow_sub-result : goal.overflow_sub-result
-overflow_sub-result c =
+overflow_sub-result c = (part (goal.at.overflow_sub-result c).After-range_of-part).0
+
+pub overflow_cast-result-2 : goal.overflow_cast-result-2
+overflow_cast-result-2 c = let h = part (goal.at.overflow_cast-result-2 c).After-range_of-part in omega (arith, h.1)
+
+pub returns : goal.returns
+returns c =
     let a = c.args in
-    let w = span_fits a.setting a.chart.now a.table.now (bytes_of a.chart.now c.type_inv.chart) a.x a.y a.k a.i c.find_label-l.result c.find_label-l.ensures c.in-Ready.is c.if-place.true c.stand_in-s.result c.stand_in-s.ensures in
-    w.0
-
-pub overflow_cast-result-then-place : goal.overflow_cast-result-then-place
-overflow_cast-result-then-place c =
-    let a = c.args in
-    let w = span_fits a.setting a.chart.now a.table.now (bytes_of a.chart.now c.type_inv.chart) a.x a.y a.k a.i c.find_label-l.result c.find_label-l.ensures c.in-Ready.is c.if-place.true c.stand_in-s.result c.stand_in-s.ensures in
-    omega (arith, w.1)
-
-pub returns-then-place : goal.returns-then-place
-returns-then-place c =
-    let a = c.args in
-    is_label_span a.setting a.chart.now a.table.now (bytes_of a.chart.now c.type_inv.chart) a.x a.y a.k a.i _ (fixed_span a.setting a.chart.now a.table.now (bytes_of a.chart.now c.type_inv.chart) a.x a.y a.k a.i c.find_label-l.result c.find_label-l.ensures c.in-Ready.is c.if-place.true c.stand_in-s.result c.stand_in-s.ensures)
-
-pub overflow_sub-result-in-Ready : goal.overflow_sub-result-in-Ready
-overflow_sub-result-in-Ready c =
-    let p = c.find_label-l.result.place in
-    omega (arith, c.text_end-end.ensures, ending-from p.len c.args.chart.now p.at)
-
-pub overflow_cast-result-in-Ready-3 : goal.overflow_cast-result-in-Ready-3
-overflow_cast-result-in-Ready-3 c =
-    let p = c.find_label-l.result.place in
-    let few : p.len ≤ 255 = search rules in
-    omega (arith, c.text_end-end.ensures, ending-most p.len c.args.chart.now p.at, few)
-
-pub returns-in-Ready : goal.returns-in-Ready
-returns-in-Ready c =
-    let a = c.args in
-    is_label_span a.setting a.chart.now a.table.now (bytes_of a.chart.now c.type_inv.chart) a.x a.y a.k a.i _ (given-span a.setting a.chart.now a.table.now (bytes_of a.chart.now c.type_inv.chart) a.x a.y a.k a.i c.find_label-l.result c.find_label-l.ensures c.in-Ready.is c.if-place.false c.text_end-end.result c.text_end-end.ensures)
-
-pub returns-in-Refused : goal.returns-in-Refused
-returns-in-Refused c =
-    let a = c.args in
-    let q = c.in-Refused in
-    is_label_span a.setting a.chart.now a.table.now (bytes_of a.chart.now c.type_inv.chart) a.x a.y a.k a.i _ (refused-span a.chart.now (tabled a.table.now (labelled a.setting a.chart.now a.x a.y a.k a.i)) c.find_label-l.result q.number q.second c.find_label-l.ensures q.is)
+    let b = bytes (goal.at.returns c).After-find_label in
+    is_label_span a.setting a.chart.now a.table.now b a.x a.y a.k a.i _
+    (span-is a.setting a.chart.now a.table.now b a.x a.y a.k a.i c.find_label.result c.find_label.ensures c.in_ok-place.place c.in_ok-place.was c.range_of-part.result c.range_of-part.ensures)

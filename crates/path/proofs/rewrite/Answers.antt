@@ -1,26 +1,23 @@
 -- `rewrite` meets its contract: by the verdict; what is read is the text of its segments (`Texts`). Assumes nothing.
 use Rattle.path.proofs.Texts.{again-short, again-done, again-refused}
 use native.Mathlib.Omega.{arith}
-use Rattle.path.proofs.Promises.{is-rewritten}
+use mathlib.Core.List.{◌++◌}
+use lib.ListN.{length, drop}
+use Rattle.path.proofs.Promises.{reading, is-rewritten}
+use mathlib.Core.Path.{◌≡◌, ap, ◌∙◌}
+use borrow.Author.Rules.{rules}
+use Rattle.std.specs.Prelude.{Err}
 use Rattle.path.proofs.rewrite.Goals as goal
 
--- the two clauses of the contract
-clauses : {A B : Type 0} → A × B → record { written : A; reading : B }
-clauses p = record { written = p.0; reading = p.1 }
+pub returns-in_err-judge : goal.returns-in_err-judge
+returns-in_err-judge c =
+    let e : c.from_residual.result ≡ Err c.in_err-judge.field-0.0 = search rules in
+    record { written = is-rewritten _ _ _ _ (let z = again-refused 0 c.args.text.now c.pass_over-m.result c.judge.result c.pass_over-m.ensures c.judge.ensures _ c.in_err-judge.was c.args.buf.now in (e ∙ z.0, z.1)); reading = reading c.args.text.now }
 
-pub returns-then-buf-n : goal.returns-then-buf-n
-returns-then-buf-n c =
-    let a = c.args in
-    clauses (is-rewritten _ _ _ _ (again-short 0 a.text.now c.pass_over-m.result c.judge-v.result c.pass_over-m.ensures c.judge-v.ensures c.in-Fine.is a.buf.now (omega arith)))
+pub returns-then-n-buf : goal.returns-then-n-buf
+returns-then-n-buf c =
+    record { written = is-rewritten _ _ _ _ (again-short 0 c.args.text.now c.pass_over-m.result c.judge.result c.pass_over-m.ensures c.judge.ensures c.in_ok-judge.was c.args.buf.now (omega arith)); reading = reading c.args.text.now }
 
-pub returns-in-Fine : goal.returns-in-Fine
-returns-in-Fine c =
-    let w = c.copy in
-    let a = c.args in
-    clauses (is-rewritten _ _ _ _ (again-done 0 a.text.now c.pass_over-m.result c.judge-v.result c.pass_over-m.ensures c.judge-v.ensures c.in-Fine.is a.buf.now w.new.buf (omega arith) w.ensures))
-
-pub returns-in-Refused : goal.returns-in-Refused
-returns-in-Refused c =
-    let a = c.args in
-    let n = c.in-Refused in
-    clauses (is-rewritten _ _ _ _ (again-refused 0 a.text.now c.pass_over-m.result c.judge-v.result c.pass_over-m.ensures c.judge-v.ensures n.a n.p n.is a.buf.now))
+pub returns : goal.returns
+returns c =
+    record { written = is-rewritten _ _ _ _ (again-done 0 c.args.text.now c.pass_over-m.result c.judge.result c.pass_over-m.ensures c.judge.ensures c.in_ok-judge.was c.args.buf.now _ (omega arith) (ap (λ t. t ++ drop (length c.args.text.now) c.args.buf.now) c.copy_from_slice.ensures.after)); reading = reading c.args.text.now }

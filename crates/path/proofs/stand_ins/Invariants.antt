@@ -1,5 +1,5 @@
 -- `stand_ins` meets its contract: after j turns the first j texts are put. Assumes nothing.
-use Prim.Native.Nat.{ℕ, ◌-◌, ◌≤◌}
+use Prim.Native.Nat.{ℕ}
 use mathlib.Core.Path.{◌≡◌}
 use mathlib.Core.List.{List}
 use lib.ListN.{replicate}
@@ -11,7 +11,4 @@ abbrev pub zeros : List ℕ
 zeros = replicate 3293 0
 
 abbrev pub invariant-loop-j : goal.invariant-loop-j
-invariant-loop-j l = (l.j ≤ 287) × (l.table ≡ put zeros 0 (stand_ins_to l.j))
-
-abbrev pub decreases-loop-j : goal.decreases-loop-j
-decreases-loop-j l = 287 - l.j
+invariant-loop-j l = l.table ≡ put zeros 0 (stand_ins_to l.j)

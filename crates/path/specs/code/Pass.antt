@@ -1,30 +1,21 @@
 -- What one pass over a text keeps, in the code's records: how the reader stands, how many segments have begun, and segment k as far as it is read.
 -- (`Reader` is the meaning; `proofs/Passes.antt` shows that this is a part of it.)
-use Rattle.std.specs.Prelude.{cond, List, ℕ, zero, suc, ◌+◌, ◌*◌, eqb, get_or}
+use Rattle.std.specs.Prelude.{cond, List, [], ◌∷◌, ℕ, zero, suc, ◌+◌, ◌*◌, eqb, get_or, take, set}
 use Rattle.path.specs.declared.reader.Act.{Act}
 use Rattle.path.specs.declared.reader.Act.TheVariants.{Letter as letter, Space as space, First as first, More as more, Point as point, Half as half, Stop as stop, Stay as stay}
-use Rattle.path.specs.declared.pass.Six.{Six}
 use Rattle.path.specs.declared.pass.Kept.{Kept}
 use Rattle.path.specs.declared.pass.Pass.{Pass}
-use Rattle.path.specs.declared.drawn.Drawn.{Drawn}
-use Rattle.path.specs.declared.drawn.Drawn.TheVariants.{Move, Line, Cubic, Close}
 use Rattle.path.specs.Reader.{stood, act, moved}
 
 -- six numbers of a list
-abbrev pub six_of : List ℕ → Six
-six_of hs = record { a = get_or hs 0 0; b = get_or hs 1 0; c = get_or hs 2 0; d = get_or hs 3 0; e = get_or hs 4 0; f = get_or hs 5 0 }
+abbrev pub six_of : List ℕ → List ℕ
+six_of hs = get_or hs 0 0 ∷ get_or hs 1 0 ∷ get_or hs 2 0 ∷ get_or hs 3 0 ∷ get_or hs 4 0 ∷ get_or hs 5 0 ∷ []
 
-abbrev pub pushed : Six → ℕ → Six
-pushed s h = record { a = h; b = s.a; c = s.b; d = s.c; e = s.d; f = s.e }
+abbrev pub pushed : List ℕ → ℕ → List ℕ
+pushed s h = h ∷ take 5 s
 
-abbrev pub renewed : Six → ℕ → Six
-renewed s h = record { a = h; b = s.b; c = s.c; d = s.d; e = s.e; f = s.f }
-
-abbrev pub drawn_six : ℕ → Six → Drawn
-drawn_six b s =
-    cond (eqb b 77) (Move s.b s.a)
-    (cond (eqb b 76) (Line s.b s.a)
-    (cond (eqb b 67) (Cubic s.f s.e s.d s.c s.b s.a) Close))
+abbrev pub renewed : List ℕ → ℕ → List ℕ
+renewed s h = set s 0 h
 
 abbrev pub kept_of : Act → ℕ → Kept → Kept
 kept_of (letter b) v k = record { letter = b; numbers = k.numbers }
@@ -47,7 +38,7 @@ begins stop = 0
 begins stay = 0
 
 abbrev pub empty : Pass
-empty = record { stand = stood; count = 0; kept = record { letter = 0; numbers = record { a = 0; b = 0; c = 0; d = 0; e = 0; f = 0 } } }
+empty = record { stand = stood; count = 0; kept = record { letter = 0; numbers = six_of [] } }
 
 -- segment k is the one with k begun before it
 abbrev pub passed : ℕ → Act → ℕ → Pass → Pass

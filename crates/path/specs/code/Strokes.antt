@@ -51,10 +51,6 @@ stroke_at s k =
     cond (ltb k (5 * s.count)) (box_stroke s.x s.y (get_or s.boxes (k / 5) no_box) (k % 5))
     (curve_stroke s.x s.y (get_or s.curves ((k - 5 * s.count) / 2) no_curve) ((k - 5 * s.count) % 2))
 
--- segment k, of the box b if it is below m, and else of the curve c
-abbrev pub stroke_of : ℕ → ℕ → ℕ → BoxRecord → Curve → ℕ → Stroke
-stroke_of x y m b c k = cond (ltb k m) (box_stroke x y b (k % 5)) (curve_stroke x y c ((k - m) % 2))
-
 -- segment k with the space before it, if one stands before it
 abbrev pub next_text : ℕ → Drawn → List ℕ
 next_text zero d = segment_text d

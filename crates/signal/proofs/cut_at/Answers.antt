@@ -1,38 +1,25 @@
 -- `cut_at`: the nodes written so far and what is left of the path.
 -- Assumes nothing.
-use native.Mathlib.Omega.{arith}
-use mathlib.Core.Path.{refl}
-use mathlib.Core.List.{[]}
-use Rattle.signal.proofs.Codes.{cut-end, cut-here, cut-next}
-use borrow.Author.Rules.{rules}
+use Rattle.std.proofs.Common.{arith}
+use Rattle.signal.proofs.Codes.{cut-first, cut-end, cut-here, cut-next}
 use Rattle.signal.proofs.cut_at.Goals as goal
 
 pub loop-k-init : goal.loop-k-init
-loop-k-init c = record { acc = []; held = refl; long = refl; sum = search rules; whole = refl }
-
-pub bounds-path-k : goal.bounds-path-k
-bounds-path-k c = let l = c.loop-k.invariant in omega arith
-
-pub bounds-nodes-count : goal.bounds-nodes-count
-bounds-nodes-count c = let l = c.loop-k.invariant in omega arith
-
-pub overflow_add-count : goal.overflow_add-count
-overflow_add-count c = let l = c.loop-k.invariant in omega arith
-
-pub returns-then-x-q : goal.returns-then-x-q
-returns-then-x-q c =
-    let a = c.args in
-    let l = c.loop-k in
-    record { whole = cut-here a.path.now a.depth a.q l.nodes l.count l.k l.invariant (omega arith) c.if-x-q.true; few = omega (arith, l.invariant.sum) }
+loop-k-init c = cut-first c.args.path.now c.args.q c.empty-nodes.result c.empty-nodes.ensures
 
 pub loop-k-preserved : goal.loop-k-preserved
 loop-k-preserved c =
-    let a = c.args in
     let l = c.loop-k in
-    cut-next a.path.now a.depth a.q l.nodes l.count l.k l.invariant (omega arith) c.if-x-q.false
+    cut-next c.args.path.now c.requires c.args.q l.nodes l.k l.invariant (omega arith) c.push.new.self c.push.result c.push.ensures.room c.push.ensures.table c.if-path-k.false
 
-pub returns : goal.returns
-returns c =
-    let a = c.args in
+pub returns-then-path-k : goal.returns-then-path-k
+returns-then-path-k c =
     let l = c.loop-k in
-    record { whole = cut-end a.path.now a.depth a.q l.nodes l.count l.k l.invariant (omega arith); few = omega (arith, l.invariant.sum) }
+    let e = cut-here c.args.path.now c.requires c.args.q l.nodes l.k l.invariant (omega arith) c.push.new.self c.push.result c.push.ensures.room c.push.ensures.table c.if-path-k.true in
+    record { whole = e.0; few = e.1 }
+
+pub returns-after-loop-k : goal.returns-after-loop-k
+returns-after-loop-k c =
+    let l = c.loop-k in
+    let e = cut-end c.args.path.now c.requires c.args.q l.nodes l.k l.invariant (omega arith) in
+    record { whole = e.0; few = e.1 }

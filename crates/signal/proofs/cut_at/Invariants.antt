@@ -4,7 +4,4 @@ use Rattle.signal.proofs.Codes.{Cut}
 use Rattle.signal.proofs.cut_at.Given as goal
 
 abbrev pub invariant-loop-k : goal.invariant-loop-k
-invariant-loop-k l = Cut l.path l.depth l.q l.nodes l.count l.k
-
-abbrev pub decreases-loop-k : goal.decreases-loop-k
-decreases-loop-k l = l.k
+invariant-loop-k l = Cut l.path l.q l.nodes l.k

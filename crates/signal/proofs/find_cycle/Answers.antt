@@ -1,50 +1,47 @@
 -- `find_cycle`: what is left of the walk at the path so far is the whole walk.
 -- Assumes nothing.
-use native.Mathlib.Omega.{arith}
-use mathlib.Core.Path.{◌≡◌, sym, ◌∙◌, refl, ap}
-use mathlib.Core.Bool.{true, false}
-use lib.ListN.{take, replicate}
-use Rattle.laws.specs.Lists.{has}
-use Rattle.signal.specs.Signal.{is_left}
-use Rattle.signal.specs.code.Nodes.{sources_of, list_of}
-use Rattle.signal.proofs.Codes.{back-first, back_on, back_met, back_end}
-use Rattle.signal.proofs.Lowest.{is_lowest}
+use Rattle.std.proofs.Common.{◌≡◌, List, ℕ, [], sym, ap, ◌∙◌, arith, length}
+use Rattle.laws.specs.Lists.{has, stack_of}
+use Rattle.walks.specs.Walks.{up_to}
+use Rattle.signal.specs.Signal.{back_from}
+use Rattle.signal.specs.code.Nodes.{sources_of}
+use Rattle.signal.specs.Outcome.{nodes_held}
+use Rattle.signal.proofs.Codes.{has-any, put_list, stack, back-first, back-path, back_on, back_met, back_end}
 use Rattle.signal.proofs.find_cycle.Goals as goal
+use Rattle.signal.proofs.find_cycle.Goals.{else-loop-test, then-loop-test+then-contains}
 
-pub overflow_cast-first : goal.overflow_cast-first
-overflow_cast-first c = let a = c.args in let h = (is_lowest (is_left (take a.done a.nodes.now)) a.n 0).within in let e = c.first_left-first.ensures in omega arith
+pub loop-init : goal.loop-init
+loop-init c =
+    let t = c.empty-path.result in
+    let one = put_list [] c.first_left-first.result t c.push.new.self c.push.result c.empty-path.ensures (omega arith) c.push.ensures.room c.push.ensures.table in
+    back-first (sources_of c.args.sources.now) c.args.done.now c.args.n c.push.new.self c.first_left-first.result c.source_left-q.result one c.first_left-first.ensures c.source_left-q.ensures
 
-pub loop-depth-init : goal.loop-depth-init
-loop-depth-init c =
-    let a = c.args in
-    back-first (sources_of a.owner.now a.to.now a.count) (take a.done a.nodes.now) a.n (replicate 32 0) c.first_left-first.result c.source_left-q.result refl
-    c.first_left-first.ensures c.source_left-q.ensures
+pub loop-preserved : goal.loop-preserved
+loop-preserved c =
+    let l = c.loop in
+    let s = sources_of c.args.sources.now in
+    let d = c.args.done.now in
+    let p = back-path s d c.args.n l.path l.counter l.q l.invariant in
+    let e = ap (has l.q) (sym p) ∙ ap (has l.q) (sym c.as_slice.ensures.items) ∙ sym (has-any l.q c.as_slice.result.now) ∙ sym c.contains.ensures.value ∙ c.if-contains.false in
+    back_on s d c.args.n l.path l.counter l.q l.invariant c.loop-test.true c.requires e c.push-in-loop.new.self c.push-in-loop.result c.push-in-loop.ensures.room c.push-in-loop.ensures.table
+    c.source_left-q-in-loop.result c.source_left-q-in-loop.ensures
 
-pub returns-then-is_in : goal.returns-then-is_in
-returns-then-is_in c =
-    let a = c.args in
-    let l = c.loop-depth in
-    let s = sources_of a.owner.now a.to.now a.count in
-    let d = take a.done a.nodes.now in
-    let e : has l.q (take l.depth l.path) ≡ true = sym c.is_in.ensures ∙ c.if-is_in.true in
-    record { whole = c.cut_at.ensures.whole ∙ ap list_of (back_met s d a.n l.path l.depth l.q l.invariant (omega arith) e); few = c.cut_at.ensures.few }
-
-pub loop-depth-preserved : goal.loop-depth-preserved
-loop-depth-preserved c =
-    let a = c.args in
-    let l = c.loop-depth in
-    let s = sources_of a.owner.now a.to.now a.count in
-    let d = take a.done a.nodes.now in
-    let e : has l.q (take l.depth l.path) ≡ false = sym c.is_in.ensures ∙ c.if-is_in.false in
-    back_on s d a.n l.path l.depth l.q l.invariant (omega arith) (omega arith) e c.source_left-q-in-loop-depth.result c.source_left-q-in-loop-depth.ensures
-
-pub cut_at-requires-2 : goal.cut_at-requires-2
-cut_at-requires-2 c = c.loop-depth.invariant.room
+pub cut_at-requires : goal.cut_at-requires
+cut_at-requires c =
+    let l = c.loop in
+    let b = l.invariant in
+    rw (c.as_slice-2.ensures.items, back-path (sources_of c.args.sources.now) c.args.done.now c.args.n l.path l.counter l.q b) (omega (arith, b.long, b.room))
 
 pub returns : goal.returns
 returns c =
-    let a = c.args in
-    let l = c.loop-depth in
-    let s = sources_of a.owner.now a.to.now a.count in
-    let d = take a.done a.nodes.now in
-    record { whole = c.cut_at-2.ensures.whole ∙ ap list_of (back_end s d a.n l.path l.depth l.q l.invariant (omega arith)); few = c.cut_at-2.ensures.few }
+    let l = c.loop in
+    let s = sources_of c.args.sources.now in
+    let d = c.args.done.now in
+    let p = back-path s d c.args.n l.path l.counter l.q l.invariant in
+    let e : up_to l.q (stack l.invariant.path) ≡ back_from c.args.n s d = elim c.loop-test.branch [
+      | else-loop-test w ↦ back_end s d c.args.n l.path l.counter l.q l.invariant (omega arith)
+      | then-loop-test+then-contains w ↦
+          let e = ap (has l.q) (sym p) ∙ ap (has l.q) (sym w.as_slice.ensures.items) ∙ sym (has-any l.q w.as_slice.result.now) ∙ sym w.contains.ensures.value ∙ w.if-contains.true in
+          back_met s d c.args.n l.path l.counter l.q l.invariant w.loop-test.true e
+    ] in
+    record { whole = c.cut_at.ensures.whole ∙ ap (λ (x : List ℕ). nodes_held (up_to l.q (stack_of 0 x (length x)))) (c.as_slice-2.ensures.items ∙ p) ∙ ap nodes_held e; few = c.cut_at.ensures.few }

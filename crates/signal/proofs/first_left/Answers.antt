@@ -1,37 +1,20 @@
--- `first_left`: the numbers from q on answer for all of them.
+-- `first_left`: what the search over the numbers finds.
 -- Assumes nothing.
-use Prim.Native.Nat.{ℕ, ◌-◌}
-use native.Mathlib.Omega.{arith}
-use mathlib.Core.Path.{◌≡◌, sym, ◌∙◌, ap}
-use mathlib.Core.Bool.{true, false}
-use lib.ListN.{take}
-use Rattle.laws.specs.Lists.{has}
+use Rattle.std.proofs.Common.{◌≡◌, ℕ, ap, ◌∙◌, not, eqb, arith, rules, tests}
+use mathlib.Core.Path.{fun_ext}
+use Rattle.std.specs.List.{list_any}
+use Rattle.std.specs.Option.{unwrap_or}
+use Rattle.std.proofs.lemmas.Iterator.{YieldsList-from_range}
+use Rattle.std.proofs.lemmas.Iterator.Search.{find_from_yields_List}
 use Rattle.signal.specs.Signal.{is_left, lowest}
-use Rattle.signal.proofs.Lowest.{lowest_next, lowest_none}
-use borrow.Author.Rules.{rules}
+use Rattle.signal.proofs.Codes.{has-any, found-lowest, lowest_or}
 use Rattle.signal.proofs.first_left.Goals as goal
-
-pub loop-q-init : goal.loop-q-init
-loop-q-init c = let e : c.args.n ≡ c.args.n - 0 = omega arith in (search rules, ap (λ (k : ℕ). lowest k (is_left (take c.args.done c.args.nodes.now)) 0) e)
-
-pub returns-then-not-is_in : goal.returns-then-not-is_in
-returns-then-not-is_in c =
-    let a = c.args in
-    let l = c.loop-q in
-    let d = take a.done a.nodes.now in
-    let e : has l.q d ≡ false = sym c.is_in.ensures ∙ c.if-not-is_in.true in
-    sym (l.invariant.1 ∙ lowest_next (is_left d) a.n l.q (omega arith) ∙ rw e)
-
-pub loop-q-preserved : goal.loop-q-preserved
-loop-q-preserved c =
-    let a = c.args in
-    let l = c.loop-q in
-    let d = take a.done a.nodes.now in
-    let e : has l.q d ≡ true = sym c.is_in.ensures ∙ c.if-not-is_in.false in
-    (omega arith, l.invariant.1 ∙ lowest_next (is_left d) a.n l.q (omega arith) ∙ rw e)
 
 pub returns : goal.returns
 returns c =
-    let a = c.args in
-    let l = c.loop-q in
-    sym (l.invariant.1 ∙ lowest_none (is_left (take a.done a.nodes.now)) a.n l.q (omega arith) l.invariant.0)
+    let n = c.args.n in
+    let d = c.args.done.now in
+    let test = λ (q : ℕ). not (list_any (λ y. eqb y q) d) in
+    let f = find_from_yields_List test _ _ c.find.result c.find.ensures.ran (YieldsList-from_range 0 n n (cc) (omega arith)) (λ x b q k. search (rules, tests)) in
+    let e : test ≡ is_left d = fun_ext (λ q. ap not (has-any q d)) in
+    c.unwrap_or.ensures ∙ ap (λ o. unwrap_or o n) (found-lowest test n c.find.result f) ∙ lowest_or test n ∙ ap (λ t. lowest n t 0) e

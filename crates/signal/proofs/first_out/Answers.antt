@@ -1,46 +1,33 @@
--- `first_out`: the records that are left answer for all of them.
+-- `first_out`: the leads that are left answer for all of them.
 -- Assumes nothing.
-use native.Mathlib.Omega.{arith}
-use mathlib.Core.Path.{◌≡◌, sym, ◌∙◌}
-use mathlib.Core.Bool.{true, false}
-use lib.ListN.{length, get_or, take}
-use Rattle.laws.specs.Lists.{has}
-use Rattle.signal.proofs.Codes.{rest_all, out_here, out_next, out_other, out_none}
-use borrow.Author.Rules.{rules}
+use Rattle.std.proofs.Common.{sym, ◌∙◌, ap}
+use lib.ListN.{drop_of_length-le}
+use Rattle.graph.specs.Ends.{targets_of}
+use Rattle.signal.specs.code.Nodes.{out_of}
+use Rattle.signal.proofs.Codes.{has-any, out_here, out_next, out_other}
 use Rattle.signal.proofs.first_out.Goals as goal
-use Rattle.signal.proofs.first_out.Goals.{Start, then-os-k+else-not-is_in, else-os-k}
+use Rattle.signal.proofs.first_out.Goals.{else-e-p-via-then-e-p+else-not-contains, else-e-p-via-else-e-p}
 
-long : (z : Start) → (length z.args.owner.now ≡ 88) × (length z.args.to.now ≡ 88)
-long z = (search rules, search rules)
-
-pub loop-k-init : goal.loop-k-init
-loop-k-init c = let a = c.args in rest_all a.owner.now a.to.now a.count (take a.done a.nodes.now) a.p
-
-pub returns-then-not-is_in : goal.returns-then-not-is_in
-returns-then-not-is_in c =
+pub returns-then-not-contains : goal.returns-then-not-contains
+returns-then-not-contains c =
     let a = c.args in
-    let l = c.loop-k in
-    let n = long (goal.at.returns-then-not-is_in c).Start in
-    let d = take a.done a.nodes.now in
-    let e : has (get_or a.to.now l.k 0) d ≡ false = sym c.is_in.ensures ∙ c.if-not-is_in.true in
-    out_here a.owner.now a.to.now a.count (omega arith) (omega arith) d a.p l.k l.invariant (omega arith) c.if-os-k.true e
+    let l = c.loop-e in
+    let e = sym (has-any _ a.done.now) ∙ sym c.contains.ensures.value ∙ c.if-not-contains.true in
+    sym (l.invariant ∙ out_here a.done.now a.p a.sources.now l.e-index c.loop-e-test.true c.if-e-p.true e)
 
-pub loop-k-preserved : goal.loop-k-preserved
-loop-k-preserved c =
+pub loop-e-preserved : goal.loop-e-preserved
+loop-e-preserved c =
     let a = c.args in
-    let l = c.loop-k in
-    let n = long (goal.at.loop-k-preserved c).Start in
-    let d = take a.done a.nodes.now in
-    elim c.if-os-k.branch [
-      | then-os-k+else-not-is_in w ↦
-          let e : has (get_or a.to.now l.k 0) d ≡ true = sym w.is_in.ensures ∙ w.if-not-is_in.false in
-          out_next a.owner.now a.to.now a.count (omega arith) (omega arith) d a.p l.k l.invariant (omega arith) w.if-os-k.true e
-      | else-os-k w ↦ out_other a.owner.now a.to.now a.count (omega arith) (omega arith) d a.p l.k l.invariant (omega arith) w.if-os-k.false
+    let l = c.loop-e in
+    elim c.else-e-p.branch [
+      | else-e-p-via-then-e-p+else-not-contains w ↦
+          let e = sym (has-any _ a.done.now) ∙ sym w.contains.ensures.value ∙ w.if-not-contains.false in
+          l.invariant ∙ out_next a.done.now a.p a.sources.now l.e-index c.loop-e-test.true w.if-e-p.true e
+      | else-e-p-via-else-e-p w ↦ l.invariant ∙ out_other a.done.now a.p a.sources.now l.e-index c.loop-e-test.true w.if-e-p.false
     ]
 
 pub returns : goal.returns
 returns c =
     let a = c.args in
-    let l = c.loop-k in
-    let n = long (goal.at.returns c).Start in
-    out_none a.owner.now a.to.now a.count (omega arith) (omega arith) (take a.done a.nodes.now) a.p l.k l.invariant (omega arith)
+    let h = drop_of_length-le a.sources.now c.loop-e-test.false in
+    sym (c.loop-e.invariant ∙ ap (λ es. out_of a.done.now (targets_of a.p es)) h)

@@ -1,20 +1,16 @@
 -- `is_free`: p is listed; or it is not, and `first_out` says whether each of its sources is.
 -- Assumes nothing.
-use mathlib.Core.Path.{sym, ◌∙◌}
-use lib.Dec.{eqb}
-use lib.ListN.{take}
-use Rattle.signal.specs.code.Nodes.{sources_of}
-use Rattle.signal.proofs.Codes.{free-listed, free-by}
+use Rattle.std.proofs.Common.{◌≡◌, refl, sym, ◌∙◌, Bool, true, false, not}
+use Rattle.graph.specs.Ends.{targets_of}
+use Rattle.signal.proofs.Codes.{has-any, out-all}
 use Rattle.signal.proofs.is_free.Goals as goal
 
-pub returns-then-is_in : goal.returns-then-is_in
-returns-then-is_in c =
-    let a = c.args in
-    sym (free-listed (sources_of a.owner.now a.to.now a.count) (take a.done a.nodes.now) a.p (sym c.is_in.ensures ∙ c.if-is_in.true))
+twice : (b : Bool) → b ≡ not (not b)
+twice true = refl
+twice false = refl
 
-pub returns : goal.returns
-returns c =
+pub returns-then-not-contains : goal.returns-then-not-contains
+returns-then-not-contains c =
     let a = c.args in
-    sym
-    (free-by (sources_of a.owner.now a.to.now a.count) (take a.done a.nodes.now) a.p (eqb c.first_out.result a.count) (sym c.is_in.ensures ∙ c.if-is_in.false)
-    c.first_out.ensures.all)
+    let e = sym (has-any a.p a.done.now) ∙ sym c.contains.ensures.value ∙ c.if-not-contains.true in
+    rw (e, out-all a.done.now (targets_of a.p a.sources.now), ← c.first_out.ensures, c.is_none.ensures) (twice _)

@@ -1,11 +1,12 @@
--- `source_left`: the source of the record that `first_out` finds.
+-- `source_left`: the first source that is left.
 -- Assumes nothing.
-use mathlib.Core.Path.{sym, ◌∙◌}
-use borrow.Author.Tests.{lt-ltb, le-ltb}
+use Rattle.std.proofs.Common.{sym, ◌∙◌, ap}
+use Rattle.std.specs.Option.{unwrap_or}
+use Rattle.graph.specs.Ends.{targets_of}
+use Rattle.signal.proofs.Codes.{out-first}
 use Rattle.signal.proofs.source_left.Goals as goal
 
-pub returns-then-k-count : goal.returns-then-k-count
-returns-then-k-count c = let o = c.first_out-k in sym (o.ensures.first ∙ rw (lt-ltb _ _ c.if-k-count.true))
-
 pub returns : goal.returns
-returns c = let o = c.first_out-k in sym (o.ensures.first ∙ rw (le-ltb _ _ c.if-k-count.false))
+returns c =
+    let a = c.args in
+    c.unwrap_or.ensures ∙ ap (λ o. unwrap_or o 0) c.first_out.ensures ∙ sym (out-first a.done.now (targets_of a.p a.sources.now))

@@ -1,21 +1,20 @@
--- What the code's arrays hold.
+-- What the code's tables hold, and what its searches find.
 -- Assumes nothing.
-use Rattle.std.specs.Prelude.{ℕ, ◌≡◌, cond, List, eqb, ltb, length, get_or, take}
-use Rattle.laws.specs.Bytes.{all_of}
-use Rattle.laws.specs.Lists.{has, padded}
+use Rattle.std.specs.Prelude.{ℕ, Bool, cond, Option, Some, None, List, [], ◌∷◌, ltb}
+use Rattle.laws.specs.Lists.{has}
+use Rattle.graph.specs.declared.Lead.{Lead}
 use Rattle.graph.specs.Ends.{targets_of}
-use Rattle.signal.specs.declared.Nodes.{Nodes}
-use Rattle.signal.specs.Signal.{Sources, first_out}
+use Rattle.signal.specs.Signal.{Sources, lowest}
 
--- the sources of each node, where record k of the first count is node owner k's and comes from node to k
-abbrev pub sources_of : List ℕ → List ℕ → ℕ → Sources
-sources_of owner to count p = targets_of p (take count owner) (take count to)
+-- the sources of each node
+abbrev pub sources_of : List Lead → Sources
+sources_of es p = targets_of p es
 
--- r is the first record of a source of p that is not listed, count where each is
-pub record IsOut (owner to : List ℕ) (count : ℕ) (done : List ℕ) (p r : ℕ) : Type 0 where
-  pub all : all_of (λ q. has q done) (sources_of owner to count p) ≡ eqb r count
-  pub first : first_out done (sources_of owner to count p) ≡ cond (ltb r count) (get_or to r 0) 0
+-- the first of them that is not listed, if there is one
+abbrev pub out_of : List ℕ → List ℕ → Option ℕ
+out_of done [] = None
+out_of done (q ∷ qs) = cond (has q done) (out_of done qs) (Some q)
 
--- the list and its length, and 0 past it
-abbrev pub list_of : List ℕ → Nodes
-list_of l = record { count = length l; nodes = padded 32 0 l }
+-- the lowest of n numbers that passes the test, if one does
+abbrev pub lowest_of : ℕ → (ℕ → Bool) → Option ℕ
+lowest_of n test = let p = lowest n test 0 in cond (ltb p n) (Some p) None

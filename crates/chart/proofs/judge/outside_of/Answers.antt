@@ -1,35 +1,26 @@
 -- `judge::outside_of`: what is left to look at gives the answer.
 -- Assumes nothing.
-use mathlib.Core.Path.{◌≡◌, refl, sym, ◌∙◌}
-use lib.ListN.{length}
-use Rattle.laws.proofs.Lists.{mapped_long}
-use Rattle.chart.proofs.Targets.{looked-end, looked-other, looked-below, looked-found}
-use borrow.Author.Rules.{rules}
+use Rattle.std.proofs.Common.{sym, ◌∙◌}
+use Rattle.chart.proofs.Targets.{looked-other, looked-below, looked-found, looked-end}
 use Rattle.chart.proofs.judge.outside_of.Goals as goal
-use Rattle.chart.proofs.judge.outside_of.Goals.{Start}
+use Rattle.chart.proofs.judge.outside_of.Goals.{else-e-owner-via-then-e-owner+else-n-e, else-e-owner-via-else-e-owner}
 
-long : (z : Start) → length z.args.t.items ≡ 64
-long z = search (rules, mapped_long)
+pub loop-e-preserved : goal.loop-e-preserved
+loop-e-preserved c =
+    let a = c.args in
+    let k = c.loop-e.e-index in
+    let h = c.loop-e-test.true in
+    elim c.else-e-owner.branch [
+      | else-e-owner-via-then-e-owner+else-n-e w ↦ sym (looked-below a.items.now a.owner a.n k h w.if-e-owner.true w.if-n-e.false) ∙ c.loop-e.invariant
+      | else-e-owner-via-else-e-owner w ↦ sym (looked-other a.items.now a.owner a.n k h w.if-e-owner.false) ∙ c.loop-e.invariant
+    ]
 
-pub loop-k-init : goal.loop-k-init
-loop-k-init c = refl
-
-pub returns-then-e-n : goal.returns-then-e-n
-returns-then-e-n c =
-    let l = c.loop-k in
-    sym (looked-found c.args.t (long (goal.at.returns-then-e-n c).Start) c.requires c.args.owner c.args.n l.k (search rules) c.if-e-owner.true c.if-e-n.true) ∙ l.invariant
-
-pub loop-k-preserved-else-e-n : goal.loop-k-preserved-else-e-n
-loop-k-preserved-else-e-n c =
-    let l = c.loop-k in
-    sym (looked-below c.args.t (long (goal.at.loop-k-preserved-else-e-n c).Start) c.requires c.args.owner c.args.n l.k (search rules) c.if-e-owner.true c.if-e-n.false) ∙ l.invariant
-
-pub loop-k-preserved : goal.loop-k-preserved
-loop-k-preserved c =
-    let l = c.loop-k in
-    sym (looked-other c.args.t (long (goal.at.loop-k-preserved c).Start) c.requires c.args.owner c.args.n l.k (search rules) c.if-e-owner.false) ∙ l.invariant
+pub returns-then-n-e : goal.returns-then-n-e
+returns-then-n-e c =
+    let a = c.args in
+    sym (looked-found a.items.now a.owner a.n c.loop-e.e-index c.loop-e-test.true c.if-e-owner.true c.if-n-e.true) ∙ c.loop-e.invariant
 
 pub returns : goal.returns
 returns c =
-    let l = c.loop-k in
-    sym (looked-end c.args.t (long (goal.at.returns c).Start) c.requires c.args.owner c.args.n l.k c.loop-k-test.false) ∙ l.invariant
+    let a = c.args in
+    sym (looked-end a.items.now a.owner a.n c.loop-e.e-index c.loop-e-test.false) ∙ c.loop-e.invariant

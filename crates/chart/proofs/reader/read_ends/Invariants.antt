@@ -1,11 +1,11 @@
 -- `reader::read_ends`: what is left to read, put into the table so far, gives the whole answer.
 -- Assumes nothing.
+use Prim.Native.Nat.{◌-◌}
 use mathlib.Core.Path.{◌≡◌}
-use Rattle.chart.specs.code.Steps.{reads-ends}
+use Rattle.chart.specs.Chart.{end, many}
+use Rattle.chart.specs.Tables.{item_of}
+use Rattle.chart.specs.code.Steps.{all_into}
 use Rattle.chart.proofs.reader.read_ends.Given as goal
 
-abbrev pub invariant-loop-left : goal.invariant-loop-left
-invariant-loop-left l = reads-ends l.t l.owner l.chart l.end l.left ≡ reads-ends l.initial.t l.owner l.chart l.at l.count
-
-abbrev pub decreases-loop-left : goal.decreases-loop-left
-decreases-loop-left l = l.left
+abbrev pub invariant-loop-k : goal.invariant-loop-k
+invariant-loop-k l = all_into (item_of l.owner) l.table (many (l.count - l._k) (end l.chart) l.end) ≡ all_into (item_of l.owner) l.initial.table (many l.count (end l.chart) l.at)

@@ -1,11 +1,11 @@
 -- `reader::read_lines`: what is left to read, put into the table so far, gives the whole answer.
 -- Assumes nothing.
+use Prim.Native.Nat.{◌-◌}
 use mathlib.Core.Path.{◌≡◌}
-use Rattle.chart.specs.code.Steps.{reads-texts}
+use Rattle.chart.specs.Chart.{text, many}
+use Rattle.chart.specs.Tables.{line_of}
+use Rattle.chart.specs.code.Steps.{all_into}
 use Rattle.chart.proofs.reader.read_lines.Given as goal
 
-abbrev pub invariant-loop-left : goal.invariant-loop-left
-invariant-loop-left l = reads-texts l.t l.owner l.chart l.end l.left ≡ reads-texts l.initial.t l.owner l.chart l.at l.count
-
-abbrev pub decreases-loop-left : goal.decreases-loop-left
-decreases-loop-left l = l.left
+abbrev pub invariant-loop-k : goal.invariant-loop-k
+invariant-loop-k l = all_into (line_of l.owner) l.table (many (l.count - l._k) (text l.chart) l.end) ≡ all_into (line_of l.owner) l.initial.table (many l.count (text l.chart) l.at)

@@ -1,11 +1,7 @@
--- `completion::complete_sinks`: each turn keeps what is left to do, by the laws of `Gains`.
+-- `completion::complete_sinks`: each turn keeps what is left to do, by the laws of `Lefts`. (Of t the sources alone change: the sixth part of `l.t`.)
 -- Assumes nothing.
-use Prim.Native.Nat.{◌-◌}
 use Rattle.graph.proofs.Lefts.{Left}
 use Rattle.graph.proofs.completion.complete_sinks.Given as goal
 
-abbrev pub invariant-loop-k : goal.invariant-loop-k
-invariant-loop-k l = Left l.given l.t l.p l.sources l.i l.k
-
-abbrev pub decreases-loop-k : goal.decreases-loop-k
-decreases-loop-k l = l.t.sinks.count - l.k
+abbrev pub invariant-loop-e : goal.invariant-loop-e
+invariant-loop-e l = Left l.given l.fn.t l.p l.t.1.1.1.1.1.0 l.i l.e-index

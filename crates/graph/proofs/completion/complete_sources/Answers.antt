@@ -1,64 +1,33 @@
 -- `completion::complete_sources`: each turn keeps what is left to do, by the laws of `Sinks`.
 -- Assumes nothing.
-use mathlib.Core.Path.{◌≡◌, refl}
-use native.Mathlib.Omega.{arith}
-use lib.ListN.{length}
-use Rattle.laws.proofs.Lists.{mapped_long}
-use Rattle.graph.specs.code.Tables.{items_of, lines_of}
-use Rattle.graph.proofs.Lists.{node-graph}
-use Rattle.graph.proofs.Sinks.{same_refl, right_end, right-other, right-sunk, right-own}
-use borrow.Author.Rules.{rules}
+use Rattle.std.proofs.Common.{◌<◌, arith, length}
+use Rattle.graph.specs.code.Tables.{items_of}
+use Rattle.graph.proofs.Lists.{table-size}
+use Rattle.graph.proofs.Sinks.{right_end, right-other, right-own}
 use Rattle.graph.proofs.completion.complete_sources.Goals as goal
-use Rattle.graph.proofs.completion.complete_sources.Goals.{Start}
+use Rattle.graph.proofs.completion.complete_sources.Goals.{After-as_slice, then-as_slice-k, else-as_slice-k}
 
-long : (z : Start) → length z.args.t.sources.items ≡ 88
-long z = search (rules, mapped_long)
-
-pub loop-k-init : goal.loop-k-init
-loop-k-init c =
-    record {
-      linked = c.requires.fit.linked;
-      same = same_refl c.args.t;
-      count = refl;
-      within = search rules;
-      fit = c.requires.fit;
-      given = refl;
-      size = refl;
-      ahead = refl;
-      number = refl;
-      less = search rules;
-      rest = refl;
-    }
-
-pub gain_sink-s-requires : goal.gain_sink-s-requires
-gain_sink-s-requires c =
+inside : (c : After-as_slice) → c.loop-k.k < length (items_of c.loop-k.t.sources)
+inside c =
     let l = c.loop-k in
-    record {
-      owned = l.invariant.linked;
-      p_lt_n = omega (arith, l.invariant.same.nodes, c.requires.p_lt_n);
-      sunk = right-sunk c.args.given c.args.t (long (goal.at.gain_sink-s-requires c).Start) c.requires.fit.linked.source_room c.args.p l.s l.j l.k l.invariant (search rules) c.if-e-p.true;
-      count_bound = omega (arith, l.invariant.fit.room);
-    }
+    omega (arith, c.loop-k-test.true, l.invariant.count, table-size l.t.sources c.as_slice.ensures.long l.invariant.fit.linked.source_room)
 
-pub loop-k-preserved-then-e-p : goal.loop-k-preserved-then-e-p
-loop-k-preserved-then-e-p c =
-    let l = c.loop-k in
-    right-own c.args.given c.args.t (long (goal.at.loop-k-preserved-then-e-p c).Start) c.requires.fit.linked.source_room c.args.p l.s l.j l.k l.invariant (search rules) c.if-e-p.true c.gain_sink-s.result c.gain_sink-s.ensures
+pub bounds-as_slice-k : goal.bounds-as_slice-k
+bounds-as_slice-k c = rw c.as_slice.ensures.items (inside (goal.at.bounds-as_slice-k c).After-as_slice)
+
+pub gain_sink-requires-clause-k_lt_count : goal.gain_sink-requires-clause-k_lt_count
+gain_sink-requires-clause-k_lt_count c = inside (goal.at.gain_sink-requires-clause-k_lt_count c).After-as_slice
 
 pub loop-k-preserved : goal.loop-k-preserved
 loop-k-preserved c =
     let l = c.loop-k in
-    right-other c.args.given c.args.t (long (goal.at.loop-k-preserved c).Start) c.requires.fit.linked.source_room c.args.p l.s l.j l.k l.invariant (search rules) c.if-e-p.false
+    let h : l.k < length (items_of l.t.sources) = inside (goal.at.loop-k-preserved c).After-as_slice in
+    let items = c.as_slice.ensures.items in
+    elim c.if-as_slice-k.branch [
+      | then-as_slice-k w ↦
+          rw w.t-is (right-own c.args.given c.args.t.now c.args.p l.t l.k l.invariant h (rw items at w.if-as_slice-k.true) w.gain_sink.new.t w.gain_sink.ensures)
+      | else-as_slice-k w ↦ rw w.t-is (right-other c.args.given c.args.t.now c.args.p l.t l.k l.invariant h (rw items at w.if-as_slice-k.false))
+    ]
 
 pub returns : goal.returns
-returns c =
-    let l = c.loop-k in
-    record {
-      graph =
-          rw (node-graph c.args.t.n (lines_of c.args.t) (items_of c.args.t.sources) (items_of c.args.t.sinks) c.args.p c.requires.p_lt_n)
-          (right_end c.args.given c.args.t (long (goal.at.returns c).Start) c.requires.fit.linked.source_room c.args.p l.s l.j l.k l.invariant c.loop-k-test.false);
-      fit = l.invariant.fit;
-      same = l.invariant.same;
-      count = l.invariant.count;
-      given = l.invariant.given;
-    }
+returns c = right_end c.args.given c.args.t.now c.args.p c.loop-k.t c.loop-k.k c.loop-k.invariant c.requires.p_lt_n c.loop-k-test.false

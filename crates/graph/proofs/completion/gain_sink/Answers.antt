@@ -1,66 +1,56 @@
 -- `completion::gain_sink`: the answer of `leads_to` picks the tables, by the laws of `Sinks`.
 -- Assumes nothing.
-use Prim.Native.Nat.{◌<◌}
-use mathlib.Core.Path.{◌≡◌, sym, ◌∙◌}
-use native.Mathlib.Omega.{arith}
-use lib.ListN.{length, get_or}
-use Rattle.laws.proofs.Lists.{mapped_long}
-use Rattle.graph.specs.code.Tables.{items_of}
+use Rattle.std.proofs.Common.{◌≡◌, ◌≤◌, ◌<◌, ◌+◌, refl, sym, ◌∙◌, arith, List, length, get_or}
+use Rattle.graph.specs.declared.Item.{Item}
 use Rattle.graph.specs.Outcome.{no_item}
-use Rattle.graph.proofs.Lists.{table-size, table_at}
+use Rattle.graph.specs.code.Tables.{items_of, mark_item, sink_of, owned}
+use Rattle.graph.proofs.Lists.{table_le, pushed-is, stored-is}
 use Rattle.graph.proofs.Cuts.{owned_le}
 use Rattle.graph.proofs.Sinks.{sink-kept, sink_out, sink-gained}
-use borrow.Author.Rules.{rules}
 use Rattle.graph.proofs.completion.gain_sink.Goals as goal
-use Rattle.graph.proofs.completion.gain_sink.Goals.{Start}
+use Rattle.graph.proofs.completion.gain_sink.Goals.{After-count_owned-number}
 
-module _ (z : Start) where
-  long : length z.args.t.sources.items ≡ 88
-  long = search (rules, mapped_long)
-
-  sinks-long : length z.args.t.sinks.items ≡ 88
-  sinks-long = search (rules, mapped_long)
-
-  k-in : z.args.k < z.args.t.sources.count
-  k-in = rw (table-size z.args.t.sources long z.requires.owned.source_room) at z.requires.sunk.inside
-
-  same : get_or (items_of z.args.t.sources) z.args.k no_item ≡ get_or z.args.t.sources.items z.args.k no_item
-  same = table_at z.args.t.sources long z.requires.owned.source_room z.args.k k-in
-
-pub offset_bounds-sources-k : goal.offset_bounds-sources-k
-offset_bounds-sources-k c = omega (arith, k-in (goal.at.offset_bounds-sources-k c).Start, c.requires.owned.source_room)
-
-pub bounds-sources-k : goal.bounds-sources-k
-bounds-sources-k c = omega (arith, k-in (goal.at.bounds-sources-k c).Start, c.requires.owned.source_room)
-
-pub returns-then-n-e : goal.returns-then-n-e
-returns-then-n-e c =
-    sink_out c.args.t c.requires.owned c.args.p c.args.j c.args.k c.requires.sunk c.requires.p_lt_n
-    (get_or c.args.t.sources.items c.args.k no_item) (same (goal.at.returns-then-n-e c).Start) (omega (arith, c.if-n-e.true, c.requires.owned.nodes))
+pub returns-then-t-e : goal.returns-then-t-e
+returns-then-t-e c =
+    let r = c.requires in
+    sink_out c.args.t.now r.owned c.args.k r.k_lt_count (omega (arith, rw c.as_slice.ensures.items at c.if-t-e.true))
 
 pub returns-then-leads_to : goal.returns-then-leads_to
 returns-then-leads_to c =
-    sink-kept c.args.t c.requires.owned c.args.p c.args.j c.args.k c.requires.sunk c.requires.p_lt_n
-    (get_or c.args.t.sources.items c.args.k no_item) (same (goal.at.returns-then-leads_to c).Start) (omega (arith, c.if-n-e.false)) (sym c.leads_to.ensures ∙ c.if-leads_to.true)
+    let r = c.requires in
+    let xs = c.as_slice.ensures.items in
+    sink-kept c.args.t.now r.owned c.args.k r.k_lt_count (omega (arith, rw xs at c.if-t-e.false))
+    (rw (xs, c.as_slice-2.ensures.items) at (sym c.leads_to.ensures ∙ c.if-leads_to.true))
 
-pub overflow_add-number : goal.overflow_add-number
-overflow_add-number c =
-    omega (
-      arith,
-      c.count_owned-number.ensures,
-      owned_le (get_or c.args.t.sources.items c.args.k no_item).to (items_of c.args.t.sinks),
-      table-size c.args.t.sinks (sinks-long (goal.at.overflow_add-number c).Start) c.requires.owned.sink_room,
-      c.requires.owned.sink_room,
-    )
+-- the record, the sinks of its node, and how many they are
+module _ (c : After-count_owned-number) where
+  abbrev x : Item
+  x = get_or (items_of c.args.t.now.sources) c.args.k no_item
 
-pub marked-with_mark-requires : goal.marked-with_mark-requires
-marked-with_mark-requires c = record { count_bound = c.requires.owned.source_room; k_lt_count = k-in (goal.at.marked-with_mark-requires c).Start }
+  abbrev ys : List Item
+  ys = items_of c.args.t.now.sinks
+
+  counted : c.count_owned-number.result ≡ length (owned x.to ys)
+  counted = rw (c.as_slice.ensures.items, c.as_slice-3.ensures.items) at c.count_owned-number.ensures
+
+  few : c.count_owned-number.result ≤ 88
+  few = omega (arith, counted, owned_le x.to ys, table_le c.args.t.now.sinks, c.requires.owned.sink_room)
+
+pub overflow_cast-number : goal.overflow_cast-number
+overflow_cast-number c = omega (arith, few c)
+
+pub overflow_add-t : goal.overflow_add-t
+overflow_add-t c = omega (arith, few c)
 
 pub returns : goal.returns
 returns c =
-    sink-gained c.args.t c.requires.owned c.args.p c.args.j c.args.k c.requires.sunk c.requires.p_lt_n
-    (get_or c.args.t.sources.items c.args.k no_item) (same (goal.at.returns c).Start) (omega (arith, c.if-n-e.false)) c.requires.count_bound
-    (sym c.leads_to.ensures ∙ c.if-leads_to.false)
-    c.count_owned-number.result c.count_owned-number.ensures
-    c.marked-with_mark.result c.push-with_sink.result
-    c.marked-with_mark.ensures (c.push-with_sink.ensures.items, c.push-with_sink.ensures.count)
+    let r = c.requires in
+    let t = c.args.t.now in
+    let xs = c.as_slice.ensures.items in
+    let at = (goal.at.returns c).After-count_owned-number in
+    let h : c.args.k < t.sources.count = omega (arith, r.k_lt_count, table_le t.sources) in
+    sink-gained t r.owned c.args.k r.k_lt_count (omega (arith, rw xs at c.if-t-e.false)) r.count_bound
+    (rw (xs, c.as_slice-2.ensures.items) at (sym c.leads_to.ensures ∙ c.if-leads_to.false))
+    c.count_owned-number.result (counted at) _ c.push.new.self
+    (stored-is t.sources c.as_slice.ensures.long r.owned.source_room c.args.k h (mark_item (c.count_owned-number.result + 1)), refl)
+    (pushed-is t.sinks c.push.ensures.long r.owned.sink_room r.count_bound (sink_of (x at).owner (x at).to) c.push.result c.push.ensures.room c.push.new.self (rw xs at c.push.ensures.table))

@@ -1,12 +1,14 @@
 -- `cutting::cut_sources`: its callees' promises, put together.
 -- Assumes nothing.
-use Prim.Native.Nat.{ℕ, ◌+◌}
 use mathlib.Core.Path.{ap, ◌∙◌}
-use mathlib.Core.List.{List, ◌++◌}
-use Rattle.laws.specs.Lists.{one}
-use Rattle.graph.specs.declared.Item.{Item}
-use Rattle.graph.specs.code.Tables.{source_of}
+use Rattle.std.proofs.lemmas.List.{take-map, length-map}
+use lib.ListN.{take}
+use Rattle.graph.proofs.Lists.{push-held}
 use Rattle.graph.proofs.cutting.cut_sources.Goals as goal
 
 pub returns : goal.returns
-returns c = let z = c.args in let a = c.turn-next in (c.push.ensures.items ∙ ap (λ (l : List Item). l ++ one (source_of z.c z.s z.a)) a.ensures.0, c.push.ensures.count ∙ ap (λ (k : ℕ). k + 1) a.ensures.1)
+returns c =
+    let t = c.args.sources.now in
+    let held = ap (take t.count) c.turn.ensures ∙ take-map _ t.count t.items in
+    let m = push-held _ c.source_of.result c.push.result c.push.new.self c.push.ensures.room c.push.ensures.table c.push.ensures.long (rw held (simp length-map c.requires.room)) c.requires.count_bound in
+    (rw (held, c.source_of.ensures) at m.0, m.1)

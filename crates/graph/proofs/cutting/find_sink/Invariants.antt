@@ -1,13 +1,10 @@
 -- `cutting::find_sink`: j counts the records of c among the first k.
 -- Assumes nothing.
-use Prim.Native.Nat.{◌-◌, ◌≤◌}
+use Prim.Native.Nat.{◌≤◌}
 use mathlib.Core.Path.{◌≡◌}
 use lib.ListN.{length, take}
-use Rattle.graph.specs.code.Tables.{owned, items_of}
+use Rattle.graph.specs.code.Tables.{owned}
 use Rattle.graph.proofs.cutting.find_sink.Given as goal
 
 abbrev pub invariant-loop-k : goal.invariant-loop-k
-invariant-loop-k l = (l.k ≤ l.t.count) × (l.j ≡ length (owned l.c (take l.k (items_of l.t)))) × (l.j ≤ l.s)
-
-abbrev pub decreases-loop-k : goal.decreases-loop-k
-decreases-loop-k l = l.t.count - l.k
+invariant-loop-k l = (l.j ≡ length (owned l.c (take l.k l.items))) × (l.j ≤ l.s)

@@ -1,96 +1,108 @@
--- `reach::mark_from` is the walk of `Cut`: each step keeps what is left of the walk, and nothing is left of it where the path is empty.
+-- `reach::mark_from` is the walk of `Cutting`: each step keeps what is left of the walk, and nothing is left of it where the path is empty.
 -- Assumes nothing.
-use Prim.Native.Nat.{◌-◌, ◌<◌}
+use Prim.Native.Nat.{◌+◌, ◌-◌, ◌<◌}
 use mathlib.Core.Path.{◌≡◌, refl, sym, ◌∙◌}
-use native.Mathlib.Omega.{arith}
-use lib.ListN.{length, take}
-use Rattle.laws.proofs.Lists.{mapped_long}
-use Rattle.graph.specs.code.Tables.{graph_of}
-use Rattle.graph.proofs.Steps.{mark-seen, seen_at, starts, starts-good, ends, step-pop, step_other, step-seen, step_push, step_room, step-to}
-use borrow.Author.Rules.{rules}
+use mathlib.Core.Bool.{true, false}
+use mathlib.Core.List.{List}
+use lib.ListN.{length, get_or, set}
+use Rattle.graph.specs.declared.Item.{Item}
+use Rattle.graph.specs.declared.Tables.{Tables}
+use Rattle.graph.specs.declared.reach.Frame.{Frame}
+use Rattle.graph.specs.Outcome.{no_item}
+use Rattle.graph.specs.code.Path.{Path, Stepped, no_frame}
+use Rattle.graph.specs.declared.reach.Seen.TheVariants.{Unseen, Marked}
+use Rattle.graph.specs.Cutting.{unseen?}
+use Rattle.graph.proofs.Stands.{unseen-eq, unseen-ne}
+use Rattle.graph.proofs.Steps.{starts, starts-good, ends, step-pop, step-other, step-seen, step-push, step-room}
 use Rattle.graph.proofs.reach.mark_from.Goals as goal
-use Rattle.graph.proofs.reach.mark_from.Goals.{In-loop-s, Start}
+use Rattle.graph.proofs.reach.mark_from.Goals.{In-loop-depth, In-Some, In_default, else-e-f-via-then-e-f+else-eq, else-e-f-via-else-e-f}
 
-module _ (z : Start) where
-  full : length z.args.t.sinks.items ≡ 88
-  full = search (rules, mapped_long)
+-- a step
+module _ (w : In-loop-depth) where
+  abbrev t : Tables
+  t = w.args.t.now
 
-  all : length z.args.seen ≡ 48
-  all = search rules
+  abbrev xs : List Item
+  xs = w.as_slice-sinks.result.now
 
--- the last frame's place
-top_in : (w : In-loop-s) → w.loop-s.s.depth - 1 < 48
-top_in w = omega (arith, w.loop-s.invariant.0.room, w.requires.linked.nodes, w.loop-s-test.true)
+  abbrev state : Path
+  state = record { seen = w.loop-depth.seen; frames = w.loop-depth.frames; depth = w.loop-depth.depth }
 
-pub returns-then-seen-at-ne0 : goal.returns-then-seen-at-ne0
-returns-then-seen-at-ne0 c =
-    sym (mark-seen c.args.t.n (graph_of c.args.t) (take c.args.t.n c.args.seen) c.args.p
-    (λ e. c.if-seen-at-ne0.true (sym (seen_at c.args.t c.requires.linked (full (goal.at.returns-then-seen-at-ne0 c).Start) c.args.seen (all (goal.at.returns-then-seen-at-ne0 c).Start) c.args.p c.requires.p_lt_n) ∙ e)))
+  abbrev f : Frame
+  f = get_or w.loop-depth.frames (w.loop-depth.depth - 1) no_frame
 
-pub loop-s-init : goal.loop-s-init
-loop-s-init c = (starts-good c.args.t c.requires.linked (full (goal.at.loop-s-init c).Start) c.args.seen (all (goal.at.loop-s-init c).Start) c.args.p c.requires.p_lt_n c.if-seen-at-ne0.false _ refl, refl)
+popped : (q : In_default) → let w = q.before.before.before.before in Stepped (t w) (xs w) (state w) (record { seen = q.loop-depth.seen; frames = q.loop-depth.frames; depth = q.loop-depth.depth - 1 })
+popped q =
+    let w = q.before.before.before.before in
+    step-pop (t w) w.requires.linked (xs w) w.as_slice-sinks.ensures.items (state w) w.loop-depth.invariant.0 w.loop-depth-test.true q.in_default.ensures.lookup.3
 
-pub offset_bounds-s-top : goal.offset_bounds-s-top
-offset_bounds-s-top c = omega (arith, top_in (goal.at.offset_bounds-s-top c).In-loop-s)
+-- a step that looks at a record
+module _ (q : In-Some) where
+  abbrev w : In-loop-depth
+  w = q.before.before.before.before
 
-pub bounds-s-top : goal.bounds-s-top
-bounds-s-top c = top_in (goal.at.bounds-s-top c).In-loop-s
+  abbrev e : Item
+  e = q.in-Some.e.now
 
-pub loop-s-smaller-then-t-k : goal.loop-s-smaller-then-t-k
-loop-s-smaller-then-t-k c = (step-pop c.args.t c.requires.linked (full (goal.at.loop-s-smaller-then-t-k c).Start) c.loop-s.s c.loop-s.invariant.0 c.loop-s-test.true c.if-t-k.true).less
+  inside : (f w).at < length (xs w)
+  inside = q.in-Some.ensures.lookup.3.0
 
-pub loop-s-preserved-then-t-k : goal.loop-s-preserved-then-t-k
-loop-s-preserved-then-t-k c =
-    let k = step-pop c.args.t c.requires.linked (full (goal.at.loop-s-preserved-then-t-k c).Start) c.loop-s.s c.loop-s.invariant.0 c.loop-s-test.true c.if-t-k.true in
-    (k.good, k.same ∙ c.loop-s.invariant.1)
+  here : get_or (xs w) (f w).at no_item ≡ e
+  here = sym (q.in-Some.ensures.lookup.3.1 no_item)
 
-pub offset_bounds-s-top-in-loop-s : goal.offset_bounds-s-top-in-loop-s
-offset_bounds-s-top-in-loop-s c = omega (arith, top_in (goal.at.offset_bounds-s-top-in-loop-s c).In-loop-s)
+  abbrev moved : List Frame
+  moved = set q.loop-depth.frames (q.loop-depth.depth - 1) (record { node = (f w).node; at = (f w).at + 1 })
 
-pub bounds-s-top-in-loop-s : goal.bounds-s-top-in-loop-s
-bounds-s-top-in-loop-s c = top_in (goal.at.bounds-s-top-in-loop-s c).In-loop-s
+  pushed : e.owner ≡ (f w).node → unseen? (get_or q.loop-depth.seen e.to Unseen) ≡ true →
+      Stepped (t w) (xs w) (state w)
+      (record { seen = set q.loop-depth.seen e.to Marked; frames = set moved q.loop-depth.depth (record { node = e.to; at = 0 }); depth = q.loop-depth.depth + 1 })
+  pushed = step-push (t w) w.requires.linked (xs w) w.as_slice-sinks.ensures.items (state w) w.loop-depth.invariant.0 w.loop-depth-test.true inside e here
 
-pub loop-s-smaller-then-e-f : goal.loop-s-smaller-then-e-f
-loop-s-smaller-then-e-f c = (step_other c.args.t c.requires.linked (full (goal.at.loop-s-smaller-then-e-f c).Start) c.loop-s.s c.loop-s.invariant.0 c.loop-s-test.true (search rules) c.if-e-f.true).less
+  other : (e.owner ≡ (f w).node → ⊥) → Stepped (t w) (xs w) (state w) (record { seen = q.loop-depth.seen; frames = moved; depth = q.loop-depth.depth })
+  other = step-other (t w) w.requires.linked (xs w) w.as_slice-sinks.ensures.items (state w) w.loop-depth.invariant.0 w.loop-depth-test.true inside e here
 
-pub loop-s-preserved-then-e-f : goal.loop-s-preserved-then-e-f
-loop-s-preserved-then-e-f c =
-    let k = step_other c.args.t c.requires.linked (full (goal.at.loop-s-preserved-then-e-f c).Start) c.loop-s.s c.loop-s.invariant.0 c.loop-s-test.true (search rules) c.if-e-f.true in
-    (k.good, k.same ∙ c.loop-s.invariant.1)
+  was : e.owner ≡ (f w).node → unseen? (get_or q.loop-depth.seen e.to Unseen) ≡ false → Stepped (t w) (xs w) (state w) (record { seen = q.loop-depth.seen; frames = moved; depth = q.loop-depth.depth })
+  was = step-seen (t w) w.requires.linked (xs w) w.as_slice-sinks.ensures.items (state w) w.loop-depth.invariant.0 w.loop-depth-test.true inside e here
 
-pub bounds-s-q : goal.bounds-s-q
-bounds-s-q c = step-to c.args.t c.requires.linked (full (goal.at.bounds-s-q c).Start) c.loop-s.s c.loop-s.invariant.0 c.loop-s-test.true (search rules)
+pub loop-depth-init : goal.loop-depth-init
+loop-depth-init c = (starts-good c.args.t.now c.requires.linked _ c.as_slice-sinks.ensures.items c.args.seen.now c.told-seen c.args.p c.requires.p_lt_n (unseen-ne _ _ _ c.ne.ensures c.if-ne.false) _ refl, refl)
 
-pub loop-s-smaller-then-s-q-ne0 : goal.loop-s-smaller-then-s-q-ne0
-loop-s-smaller-then-s-q-ne0 c = (step-seen c.args.t c.requires.linked (full (goal.at.loop-s-smaller-then-s-q-ne0 c).Start) c.loop-s.s c.loop-s.invariant.0 c.loop-s-test.true (search rules) (search rules) c.if-s-q-ne0.true).less
+pub loop-depth-smaller-in_default : goal.loop-depth-smaller-in_default
+loop-depth-smaller-in_default c = (popped (goal.at.loop-depth-smaller-in_default c).In_default).less
 
-pub loop-s-preserved-then-s-q-ne0 : goal.loop-s-preserved-then-s-q-ne0
-loop-s-preserved-then-s-q-ne0 c =
-    let k = step-seen c.args.t c.requires.linked (full (goal.at.loop-s-preserved-then-s-q-ne0 c).Start) c.loop-s.s c.loop-s.invariant.0 c.loop-s-test.true (search rules) (search rules) c.if-s-q-ne0.true in
-    (k.good, k.same ∙ c.loop-s.invariant.1)
+pub loop-depth-preserved-in_default : goal.loop-depth-preserved-in_default
+loop-depth-preserved-in_default c =
+    let k = popped (goal.at.loop-depth-preserved-in_default c).In_default in
+    (k.good, k.same ∙ c.loop-depth.invariant.1)
 
-pub bounds-s-q-in-loop-s : goal.bounds-s-q-in-loop-s
-bounds-s-q-in-loop-s c = step-to c.args.t c.requires.linked (full (goal.at.bounds-s-q-in-loop-s c).Start) c.loop-s.s c.loop-s.invariant.0 c.loop-s-test.true (search rules)
+pub bounds-frames-depth : goal.bounds-frames-depth
+bounds-frames-depth c =
+    let q = (goal.at.bounds-frames-depth c).In-Some in
+    step-room (t (w q)) (w q).requires.linked (xs (w q)) (w q).as_slice-sinks.ensures.items (state (w q)) (w q).loop-depth.invariant.0 (w q).loop-depth-test.true (inside q) (e q) (here q) (unseen-eq _ _ _ c.eq.ensures c.if-eq.true)
 
-pub offset_bounds-s-d : goal.offset_bounds-s-d
-offset_bounds-s-d c = omega (arith, top_in (goal.at.offset_bounds-s-d c).In-loop-s)
+pub loop-depth-smaller-then-eq : goal.loop-depth-smaller-then-eq
+loop-depth-smaller-then-eq c = (pushed (goal.at.loop-depth-smaller-then-eq c).In-Some c.if-e-f.true (unseen-eq _ _ _ c.eq.ensures c.if-eq.true)).less
 
-pub bounds-s-d : goal.bounds-s-d
-bounds-s-d c = omega (arith, step_room c.args.t c.requires.linked (full (goal.at.bounds-s-d c).Start) c.loop-s.s c.loop-s.invariant.0 c.loop-s-test.true (search rules) c.if-s-q-ne0.false, c.requires.linked.nodes)
+pub loop-depth-preserved-then-eq : goal.loop-depth-preserved-then-eq
+loop-depth-preserved-then-eq c =
+    let k = pushed (goal.at.loop-depth-preserved-then-eq c).In-Some c.if-e-f.true (unseen-eq _ _ _ c.eq.ensures c.if-eq.true) in
+    (k.good, k.same ∙ c.loop-depth.invariant.1)
 
-pub overflow_add-s-in-loop-s : goal.overflow_add-s-in-loop-s
-overflow_add-s-in-loop-s c = omega (arith, top_in (goal.at.overflow_add-s-in-loop-s c).In-loop-s)
+pub loop-depth-smaller : goal.loop-depth-smaller
+loop-depth-smaller c =
+    let q = (goal.at.loop-depth-smaller c).In-Some in
+    elim c.else-e-f.branch [ else-e-f-via-then-e-f+else-eq v ↦ (was q v.if-e-f.true (unseen-eq _ _ _ v.eq.ensures v.if-eq.false)).less | else-e-f-via-else-e-f v ↦ (other q v.if-e-f.false).less ]
 
-pub loop-s-smaller : goal.loop-s-smaller
-loop-s-smaller c = (step_push c.args.t c.requires.linked (full (goal.at.loop-s-smaller c).Start) c.loop-s.s c.loop-s.invariant.0 c.loop-s-test.true (search rules) (search rules) c.if-s-q-ne0.false).less
-
-pub loop-s-preserved : goal.loop-s-preserved
-loop-s-preserved c =
-    let k = step_push c.args.t c.requires.linked (full (goal.at.loop-s-preserved c).Start) c.loop-s.s c.loop-s.invariant.0 c.loop-s-test.true (search rules) (search rules) c.if-s-q-ne0.false in
-    (k.good, k.same ∙ c.loop-s.invariant.1)
+pub loop-depth-preserved : goal.loop-depth-preserved
+loop-depth-preserved c =
+    let q = (goal.at.loop-depth-preserved c).In-Some in
+    elim c.else-e-f.branch [
+      | else-e-f-via-then-e-f+else-eq v ↦ ((was q v.if-e-f.true (unseen-eq _ _ _ v.eq.ensures v.if-eq.false)).good, (was q v.if-e-f.true (unseen-eq _ _ _ v.eq.ensures v.if-eq.false)).same ∙ c.loop-depth.invariant.1)
+      | else-e-f-via-else-e-f v ↦ ((other q v.if-e-f.false).good, (other q v.if-e-f.false).same ∙ c.loop-depth.invariant.1)
+    ]
 
 pub returns : goal.returns
 returns c =
-    sym (ends c.args.t c.requires.linked (full (goal.at.returns c).Start) c.loop-s.s c.loop-s-test.false)
-    ∙ c.loop-s.invariant.1
-    ∙ starts c.args.t c.requires.linked (full (goal.at.returns c).Start) c.args.seen (all (goal.at.returns c).Start) c.args.p c.requires.p_lt_n c.if-seen-at-ne0.false
+    sym (ends c.args.t.now c.requires.linked _ c.as_slice-sinks.ensures.items (record { seen = c.loop-depth.seen; frames = c.loop-depth.frames; depth = c.loop-depth.depth }) c.loop-depth-test.false)
+    ∙ c.loop-depth.invariant.1
+    ∙ starts c.args.t.now c.requires.linked _ c.as_slice-sinks.ensures.items c.args.seen.now c.told-seen c.args.p c.requires.p_lt_n (unseen-ne _ _ _ c.ne.ensures c.if-ne.false)

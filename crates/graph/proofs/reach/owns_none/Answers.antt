@@ -1,15 +1,29 @@
--- `reach::owns_none`: record number 0 of those that p owns, or none.
+-- `reach::owns_none`: no record is one of p.
 -- Assumes nothing.
-use mathlib.Core.Path.{subst}
-use Rattle.graph.specs.code.Tables.{items_of}
-use Rattle.graph.specs.code.Explore.{IsFound}
-use Rattle.graph.proofs.Cuts.{none_of, some_of}
+use mathlib.Core.Path.{◌≡◌, refl, ◌∙◌}
+use mathlib.Core.Bool.{Bool, true, false, not, ◌&&◌}
+use mathlib.Core.List.{List, [], ◌∷◌}
+use Prim.Native.Nat.{ℕ}
+use lib.Dec.{eqb}
+use Rattle.std.proofs.Common.{rules, tests}
+use Rattle.std.specs.List.{list_all}
+use Rattle.std.proofs.lemmas.Iterator.{YieldsList-from_slice}
+use Rattle.std.proofs.lemmas.Iterator.Search.{all_from_yields_List}
+use Rattle.graph.specs.declared.Item.{Item}
+use Rattle.graph.specs.Graph.{none?}
+use Rattle.laws.specs.Lists.{keep}
+use Rattle.graph.specs.code.Tables.{owned, edge_of}
 use Rattle.graph.proofs.reach.owns_none.Goals as goal
 
-pub returns-in-Nothing : goal.returns-in-Nothing
-returns-in-Nothing c = none_of (items_of c.args.t) c.args.p (subst (IsFound (items_of c.args.t) c.args.p 0) c.in-Nothing.is c.find_sink-found.ensures)
+none-owned : (p : ℕ) (xs : List Item) → list_all (λ (e : Item). not (eqb e.owner p)) xs ≡ none? (owned p xs)
+none-owned p [] = refl
+none-owned p (x ∷ xs) = go (eqb x.owner p) (none-owned p xs)
+  where
+    go : (b : Bool) → list_all (λ (e : Item). not (eqb e.owner p)) xs ≡ none? (owned p xs) → (not b && list_all (λ (e : Item). not (eqb e.owner p)) xs) ≡ none? (keep b (edge_of x) (owned p xs))
+    go true i = refl
+    go false i = i
 
-pub returns-in_default : goal.returns-in_default
-returns-in_default c =
-    some_of (items_of c.args.t) c.args.p c.in_default.field-0
-    (subst (IsFound (items_of c.args.t) c.args.p 0) c.in_default.is c.find_sink-found.ensures)
+pub returns : goal.returns
+returns c =
+    all_from_yields_List (λ (e : Item). not (eqb e.owner c.args.p)) _ _ _ c.all.ensures.ran (YieldsList-from_slice c.args.items.now cc) (λ x b q k. search (rules, tests))
+    ∙ none-owned c.args.p c.args.items.now

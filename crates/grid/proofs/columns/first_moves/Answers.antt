@@ -1,43 +1,38 @@
 -- `columns::first_moves`: one node more at each turn, the columns as moved so far.
 -- Assumes nothing.
-use native.Mathlib.Omega.{arith}
-use mathlib.Core.Path.{◌≡◌, refl}
-use lib.ListN.{length, take}
+use Rattle.std.proofs.Common.{◌≡◌, ◌≤◌, ap, sym, ◌∙◌, refl, length, arith}
 use Rattle.laws.specs.Each.{each}
+use Rattle.laws.proofs.Each.{next}
 use Rattle.grid.specs.Columns.{first_move, first_moves}
-use Rattle.grid.specs.code.Leads.{shape_in}
-use Rattle.grid.proofs.LeadLaws.{leads-long}
-use Rattle.grid.proofs.RoundLaws.{step-take, step-drop, steps_whole, move_same, moved-boxes}
-use borrow.Author.Rules.{rules}
+use Rattle.grid.specs.code.Arrays.{Boxes}
+use Rattle.grid.proofs.RoundLaws.{moved-boxes}
 use Rattle.grid.proofs.columns.first_moves.Goals as goal
+use Rattle.grid.proofs.columns.first_moves.Goals.{At-loop-p}
+
+-- the columns of the turn are those of so many boxes
+boxes : (c : At-loop-p) → c.loop-p.p ≤ length c.args.leads.now → Boxes (length c.args.leads.now) c.args.rows.now c.loop-p.cols
+boxes c h =
+    let a = c.args in
+    let z = c.requires in
+    rw c.loop-p.invariant (moved-boxes (length a.leads.now) a.rows.now a.leads.now refl (omega (arith, c.nodes-p-end.ensures)) z.rows.0 z.rows.1 a.cols.now z.first c.loop-p.p h)
 
 pub loop-p-init : goal.loop-p-init
 unfolding each
-loop-p-init c = (search rules, refl, refl)
+loop-p-init c = refl
 
-pub first_move-requires : goal.first_move-requires
-first_move-requires c =
-    let a = c.args in
-    let l = c.loop-p in
-    record { led = c.requires.led; boxes = moved-boxes a.n a.rows.now (shape_in a.n a.to.now a.bounds.now) (leads-long a.n a.to.now a.bounds.now) c.requires.led.nodes c.requires.inside.0 a.cols.now c.requires.inside.1 l.p l.cols l.invariant.0 l.invariant.1; p_lt_n = c.loop-p-test.true }
+pub first_move-requires-clause-boxes : goal.first_move-requires-clause-boxes
+first_move-requires-clause-boxes c = boxes (goal.at.first_move-requires-clause-boxes c).At-loop-p (omega (arith, c.loop-p-test.true, c.nodes-p-end.ensures))
 
 pub loop-p-preserved : goal.loop-p-preserved
 loop-p-preserved c =
-    let a = c.args in
-    let l = c.loop-p in
-    let f = first_move (shape_in a.n a.to.now a.bounds.now) (take a.n a.rows.now) in
-    let same = move_same (shape_in a.n a.to.now a.bounds.now) (take a.n a.rows.now) in
-    let now = c.first_move.new.cols in (
-      omega arith,
-      step-take a.n f same a.cols.now l.p l.cols now l.invariant.1 l.invariant.2 c.first_move.ensures,
-      step-drop a.n f same a.cols.now l.p l.cols now l.invariant.1 l.invariant.2 c.first_move.ensures,
-    )
+    let f = first_move c.args.leads.now c.args.rows.now in
+    c.first_move.ensures ∙ ap (f c.loop-p.p) c.loop-p.invariant ∙ sym (next c.args.cols.now f c.loop-p.p)
 
 pub returns : goal.returns
 unfolding first_moves
 returns c =
-    let a = c.args in
-    let l = c.loop-p in
-    let g = shape_in a.n a.to.now a.bounds.now in
-    let e : l.p ≡ length g = omega (arith, leads-long a.n a.to.now a.bounds.now) in
-    steps_whole a.n (first_move g (take a.n a.rows.now)) (move_same g (take a.n a.rows.now)) a.cols.now (length g) l.cols (rw e at l.invariant.1) l.invariant.2
+    let e : c.loop-p.p ≡ length c.args.leads.now = omega (arith, c.nodes-p-end.ensures.0) in
+    record {
+      moved = c.loop-p.invariant ∙ ap (each c.args.cols.now (first_move c.args.leads.now c.args.rows.now)) e;
+      boxes = boxes (goal.at.returns c).At-loop-p (omega (arith, e));
+    }

@@ -1,33 +1,26 @@
--- `columns::is_taken`: one box more at each turn, none of them there so far.
+-- `columns::is_taken`: the test of the chain is that of the definition.
 -- Assumes nothing.
-use Prim.Native.Nat.{◌<◌}
-use native.Mathlib.Omega.{arith}
-use mathlib.Core.Path.{◌≡◌, sym}
-use lib.ListN.{length}
-use borrow.Author.Tests.{ne_eqb}
-use Rattle.grid.proofs.FoldLaws.{other_row, other-column, taken-there}
+use Rattle.std.proofs.Common.{ℕ, Bool, List, [], ◌∷◌, rules, tests, ◌≡◌, refl, ap, ◌∙◌, eqb, ◌&&◌, ◌||◌}
+use Rattle.std.specs.List.{list_any, zip}
+use Rattle.std.proofs.lemmas.Iterator.{YieldsList-from_slice, YieldsList-from_zip}
+use Rattle.std.proofs.lemmas.Iterator.Consumers.{YieldsList-at}
+use Rattle.std.proofs.lemmas.Iterator.Search.{any_from_yields_List}
+use Rattle.grid.specs.Columns.{taken}
 use Rattle.grid.proofs.columns.is_taken.Goals as goal
-use Rattle.grid.proofs.columns.is_taken.Goals.{else-ys-k-via-then-ys-k+else-xs-k, else-ys-k-via-else-ys-k}
 
-pub returns-then-xs-k : goal.returns-then-xs-k
-returns-then-xs-k c =
-    let a = c.args in
-    taken-there a.rows.now a.cols.now a.n c.loop-k.k a.r a.x (omega arith) (omega arith) c.loop-k-test.true
-    c.if-ys-k.true c.if-xs-k.true
+-- box p stands there
+abbrev stands : ℕ → ℕ → ℕ × ℕ → Bool
+stands r x p = eqb p.0 r && eqb p.1 x
 
-pub loop-k-preserved : goal.loop-k-preserved
-loop-k-preserved c =
-    let a = c.args in
-    let l = c.loop-k in
-    let hr : l.k < length a.rows.now = omega arith in
-    let hc : l.k < length a.cols.now = omega arith in
-    elim c.else-ys-k.branch [
-      | else-ys-k-via-then-ys-k+else-xs-k w ↦ (omega arith, other-column a.rows.now a.cols.now l.k a.r a.x hr hc l.invariant.1 (ne_eqb _ _ w.if-xs-k.false))
-      | else-ys-k-via-else-ys-k w ↦ (omega arith, other_row a.rows.now a.cols.now l.k a.r a.x hr hc l.invariant.1 w.if-ys-k.false)
-    ]
+taken-is : (r x : ℕ) (rows cols : List ℕ) → list_any (stands r x) (zip rows cols) ≡ taken rows cols r x
+taken-is r x [] cols = refl
+taken-is r x (y ∷ rows) [] = refl
+taken-is r x (y ∷ rows) (c ∷ cols) = ap (λ b. (eqb y r && eqb c x) || b) (taken-is r x rows cols)
 
 pub returns : goal.returns
 returns c =
-    let l = c.loop-k in
-    let e : l.k ≡ c.args.n = omega (arith, l.invariant.0) in
-    sym (rw e at l.invariant.1)
+    let a = c.args in
+    any_from_yields_List (stands a.r a.x) c.any.new.self _ _ c.any.ensures.ran
+    (YieldsList-from_zip (YieldsList-at c.zip.ensures.first (YieldsList-from_slice a.rows.now c.iter.ensures.rest)) (YieldsList-from_slice a.cols.now cc))
+    (λ p b q k. search (rules, tests))
+    ∙ taken-is a.r a.x a.rows.now a.cols.now

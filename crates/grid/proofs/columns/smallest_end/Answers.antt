@@ -1,48 +1,16 @@
--- `columns::smallest_end`: it counts down, so that it meets the ends in the order of the definition.
+-- `columns::smallest_end`: the smallest so far, and the nodes that are left.
 -- Assumes nothing.
-use Prim.Native.Nat.{◌<◌, ◌-◌}
-use native.Mathlib.Omega.{arith}
-use mathlib.Core.Path.{◌≡◌, ap, sym}
-use mathlib.Core.List.{map}
+use Rattle.std.proofs.Common.{◌+◌, ap, sym, ◌∙◌, drop}
 use Rattle.grid.specs.Lists.{smallest}
-use Rattle.grid.specs.Columns.{at}
-use Rattle.grid.proofs.PartLaws.{part_none, part-down}
-use borrow.Author.Rules.{rules}
+use Rattle.grid.specs.Columns.{at, columns_of}
+use Rattle.grid.proofs.AverageLaws.{columns_more, smallest-min}
 use Rattle.grid.proofs.columns.smallest_end.Goals as goal
-use Rattle.grid.proofs.columns.smallest_end.Goals.{In-loop-k}
 
--- the end leads to a node
-node : (c : In-loop-k) → at c.args.to.now (c.loop-k.k - 1) < c.args.n
-node c = c.requires.by_index (c.loop-k.k - 1) (omega arith)
-
-pub loop-k-init : goal.loop-k-init
-loop-k-init c =
-    let a = c.args in
-    (search rules, search rules, sym (ap (λ l. smallest a.most (map (at a.cols.now) l)) (part_none a.to.now a.b)))
-
-pub overflow_cast-c-in-loop-k : goal.overflow_cast-c-in-loop-k
-overflow_cast-c-in-loop-k c = let h = node (goal.at.overflow_cast-c-in-loop-k c).In-loop-k in search rules
-
-pub bounds-cols-all : goal.bounds-cols-all
-bounds-cols-all c = omega (arith, node (goal.at.bounds-cols-all c).In-loop-k, c.requires.a_le_b)
-
-pub loop-k-preserved-then-c-v : goal.loop-k-preserved-then-c-v
-loop-k-preserved-then-c-v c =
-    let a = c.args in
-    let l = c.loop-k in
-    let e = part-down a.to.now a.b l.k (omega arith) l.invariant.1 (omega arith) in
-    (omega arith, omega arith, rw e (omega arith))
-
-pub loop-k-preserved : goal.loop-k-preserved
-loop-k-preserved c =
-    let a = c.args in
-    let l = c.loop-k in
-    let e = part-down a.to.now a.b l.k (omega arith) l.invariant.1 (omega arith) in
-    (omega arith, omega arith, rw e (omega arith))
-
-pub returns : goal.returns
-returns c =
-    let a = c.args in
-    let l = c.loop-k in
-    let e : l.k ≡ a.a = omega arith in
-    (rw e at l.invariant.2)
+pub loop-q-preserved : goal.loop-q-preserved
+loop-q-preserved c =
+    let l = c.loop-q in
+    let cols = c.args.cols.now in
+    let nodes = c.args.nodes.now in
+    ap (λ v. smallest v (columns_of cols (drop (l.q-index + 1) nodes))) c.min-least.ensures
+    ∙ smallest-min l.least (at cols (at nodes l.q-index)) (columns_of cols (drop (l.q-index + 1) nodes))
+    ∙ sym (ap (smallest l.least) (columns_more cols nodes l.q-index c.loop-q-test.true)) ∙ l.invariant

@@ -1,15 +1,9 @@
--- `columns::sum_of`: it counts down, so that it meets the ends in the order of the definition.
+-- `columns::sum_of`: the sum so far, and that of the nodes that are left.
 -- Assumes nothing.
-use Prim.Native.Nat.{◌≤◌, ◌-◌, ◌*◌}
-use mathlib.Core.Path.{◌≡◌}
-use mathlib.Core.List.{map}
+use Rattle.std.proofs.Common.{◌≡◌, ◌≤◌, ◌+◌, ◌*◌, drop}
 use Rattle.grid.specs.Lists.{total}
-use Rattle.grid.specs.Columns.{at}
-use Rattle.grid.specs.code.Leads.{part}
+use Rattle.grid.specs.Columns.{columns_of}
 use Rattle.grid.proofs.columns.sum_of.Given as goal
 
-abbrev pub invariant-loop-k : goal.invariant-loop-k
-invariant-loop-k l = (l.a ≤ l.k) × (l.k ≤ l.b) × (l.s ≤ 144 * (l.b - l.k)) × (l.s ≡ total (map (at l.cols) (part l.to l.k l.b)))
-
-abbrev pub decreases-loop-k : goal.decreases-loop-k
-decreases-loop-k l = l.k
+abbrev pub invariant-loop-q : goal.invariant-loop-q
+invariant-loop-q l = (l.sum ≤ 144 * l.q-index) × (l.sum + total (columns_of l.cols (drop l.q-index l.nodes)) ≡ total (columns_of l.cols l.nodes))

@@ -1,26 +1,37 @@
--- `heights::heights`: one node more at each turn.
+-- `heights::heights`: one node more at each turn, and then one number.
 -- Assumes nothing.
-use native.Mathlib.Omega.{arith}
-use mathlib.Core.Path.{◌≡◌, ap, ◌∙◌}
-use Rattle.grid.specs.code.Leads.{shape_in}
+use Rattle.std.proofs.Common.{◌≡◌, ◌-◌, ◌++◌, length, None, replicate, ap, ◌∙◌, arith}
+use Rattle.std.proofs.lemmas.List.{length-take-le, take_all}
+use Rattle.laws.specs.Lists.{padded}
+use Rattle.laws.proofs.Lists.{take-replicate}
 use Rattle.grid.specs.code.Walk.{rows_of}
-use Rattle.grid.proofs.LeadLaws.{leads-long}
-use Rattle.grid.proofs.LowerLaws.{done, done_first, done_more, done_all}
-use Rattle.laws.proofs.Lists.{drop-replicate}
-use borrow.Author.Rules.{rules}
+use Rattle.grid.specs.Heights.{heights}
+use Rattle.grid.proofs.HeightLaws.{heights-long}
+use Rattle.grid.proofs.LowerLaws.{done, done_first, done_more, done_all, numbers_of, numbers-are, numbers_more, padded-is}
 use Rattle.grid.proofs.heights.heights.Goals as goal
+use Rattle.grid.proofs.heights.heights.Goals.{After-loop-p}
+
+rows_long : (c : After-loop-p) → length c.loop-p.rows ≡ c.nodes-n.result
+rows_long c = c.loop-p.auto.rows ∙ length-take-le c.nodes-n.result (replicate 48 None) c.nodes-n.ensures.1
 
 pub loop-p-init : goal.loop-p-init
-loop-p-init c = (search rules, done_first c.args.n (shape_in c.args.n c.args.to.now c.args.bounds.now) (leads-long c.args.n c.args.to.now c.args.bounds.now) c.requires.nodes, drop-replicate c.args.n 48 0)
+loop-p-init c =
+    let e = c.nodes-n.ensures in
+    ap rows_of (take-replicate c.nodes-n.result 48 None e.1) ∙ rw e.0 (done_first c.args.leads.now)
 
 pub loop-p-preserved : goal.loop-p-preserved
-loop-p-preserved c = let l = c.loop-p in (omega arith, done_more c.args.n (shape_in c.args.n c.args.to.now c.args.bounds.now) (leads-long c.args.n c.args.to.now c.args.bounds.now) l.p (rows_of c.args.n l.rows) _ l.invariant.1 c.turn-next.ensures.0, c.turn-next.ensures.1 ∙ l.invariant.2)
+loop-p-preserved c = done_more c.args.leads.now c.loop-p.p _ _ c.loop-p.invariant c.turn.ensures
+
+pub loop-k-preserved : goal.loop-k-preserved
+loop-k-preserved c = numbers_more c.loop-p.rows c.loop-k.k c.loop-k-test.true c.loop-k.numbers c.unwrap_or.result c.loop-k.invariant c.unwrap_or.ensures
 
 pub returns : goal.returns
 returns c =
-    let l = c.loop-p in
-    let n = c.args.n in
-    let g = shape_in n c.args.to.now c.args.bounds.now in
-    let h = leads-long n c.args.to.now c.args.bounds.now in
-    let e : l.p ≡ n = omega (arith, l.invariant.0) in
-    c.numbers-r.ensures ∙ cc (done_all n g h (rows_of n l.rows) (l.invariant.1 ∙ ap (λ i. done n g h i) e), l.invariant.2)
+    let g = c.args.leads.now in
+    let rows = c.loop-p.rows in
+    let h = rows_long (goal.at.returns c).After-loop-p in
+    let all : c.loop-p.p ≡ length g = omega (arith, c.nodes-n.ensures.0, c.loop-p-test.false, c.loop-p.auto.p-end) in
+    let e : numbers_of rows ≡ heights g = numbers-are rows ∙ done_all g (rows_of rows) (c.loop-p.invariant ∙ ap (done g) all) in
+    let n : length (heights g) ≡ length g = heights-long g in
+    c.loop-k.invariant ∙ ap (λ l. padded 48 0 (numbers_of l)) (take_all c.loop-k.k rows c.loop-k-test.false) ∙ ap (padded 48 0) e
+    ∙ padded-is 48 (heights g) (omega (arith, c.nodes-n.ensures)) ∙ ap (λ i. heights g ++ replicate (48 - i) 0) n

@@ -1,16 +1,13 @@
--- `heights::heights`: one node more at each turn.
+-- `heights::heights`: one node more at each turn, and then one number.
 -- Assumes nothing.
-use Prim.Native.Nat.{◌-◌, ◌≤◌}
-use mathlib.Core.Path.{◌≡◌}
-use lib.ListN.{drop, replicate}
-use Rattle.grid.specs.code.Leads.{shape_in}
+use Rattle.std.proofs.Common.{◌≡◌, take}
+use Rattle.laws.specs.Lists.{padded}
 use Rattle.grid.specs.code.Walk.{rows_of}
-use Rattle.grid.proofs.LeadLaws.{leads-long}
-use Rattle.grid.proofs.LowerLaws.{done}
+use Rattle.grid.proofs.LowerLaws.{done, numbers_of}
 use Rattle.grid.proofs.heights.heights.Given as goal
 
 abbrev pub invariant-loop-p : goal.invariant-loop-p
-invariant-loop-p l = (l.p ≤ l.n) × (rows_of l.n l.rows ≡ done l.n (shape_in l.n l.to l.bounds) (leads-long l.n l.to l.bounds) l.p) × (drop l.n l.rows ≡ replicate (48 - l.n) 0)
+invariant-loop-p l = rows_of l.rows ≡ done l.leads l.p
 
-abbrev pub decreases-loop-p : goal.decreases-loop-p
-decreases-loop-p l = l.n - l.p
+abbrev pub invariant-loop-k : goal.invariant-loop-k
+invariant-loop-k l = l.numbers ≡ padded 48 0 (numbers_of (take l.k l.row-items))

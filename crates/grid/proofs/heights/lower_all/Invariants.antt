@@ -1,15 +1,9 @@
--- `heights::lower_all` counts down.
+-- `heights::lower_all`: one row more at each turn.
 -- Assumes nothing.
-use Prim.Native.Nat.{◌≤◌}
-use mathlib.Core.Path.{◌≡◌}
-use lib.ListN.{length, drop}
+use Rattle.std.proofs.Common.{◌≡◌, length, take}
 use Rattle.grid.specs.Heights.{lowered}
-use Rattle.grid.specs.code.Walk.{raised}
-use Rattle.grid.proofs.LowerLaws.{from, part}
+use Rattle.grid.specs.code.Walk.{raised, reached_in, rows_of}
 use Rattle.grid.proofs.heights.lower_all.Given as goal
 
 abbrev pub invariant-loop-k : goal.invariant-loop-k
-invariant-loop-k l = (l.k ≤ l.n) × (length l.moved ≡ 48) × (from l.n l.k l.moved ≡ lowered (raised l.n l.m) (part l.n l.k l.seen l.walked) (from l.n l.k l.rows)) × (drop l.n l.moved ≡ drop l.n l.rows)
-
-abbrev pub decreases-loop-k : goal.decreases-loop-k
-decreases-loop-k l = l.k
+invariant-loop-k l = rows_of l.rows ≡ lowered (raised (length l.walked) l.m) (reached_in (length l.walked) (take l.k l.walked)) (rows_of l.initial.rows)

@@ -1,13 +1,8 @@
 -- `leads::leads_of`: after p turns the ends of the first p nodes are put, and their bounds.
 -- Assumes nothing.
-use Prim.Native.Nat.{◌-◌, ◌≤◌}
-use mathlib.Core.Path.{◌≡◌}
-use lib.ListN.{length}
+use Rattle.std.proofs.Common.{◌≡◌, length}
 use Rattle.grid.proofs.LeadLaws.{ends_to, table_to, Bounds}
 use Rattle.grid.proofs.leads.leads_of.Given as goal
 
 abbrev pub invariant-loop-p : goal.invariant-loop-p
-invariant-loop-p l = (l.p ≤ l.n) × (l.to ≡ table_to l.sources l.sinks l.p) × (l.end ≡ length (ends_to l.sources l.sinks l.p)) × Bounds l.sources l.sinks l.p l.bounds
-
-abbrev pub decreases-loop-p : goal.decreases-loop-p
-decreases-loop-p l = l.n - l.p
+invariant-loop-p l = (l.to ≡ table_to l.sources l.sinks l.p) × (l.end ≡ length (ends_to l.sources l.sinks l.p)) × Bounds l.sources l.sinks l.p l.bounds

@@ -1,20 +1,11 @@
--- `leads::put_ends`: after j turns the ends among the first j records are put.
+-- `leads::put_ends`: what is put, and the ends that are left.
 -- Assumes nothing.
-use Prim.Native.Nat.{ℕ, ◌+◌, ◌-◌, ◌≤◌}
-use mathlib.Core.Path.{◌≡◌}
-use mathlib.Core.List.{List}
-use lib.ListN.{length, take}
-use lib.Seq.{sets}
-use Rattle.graph.specs.declared.Ends.{Ends}
+use Rattle.std.proofs.Common.{◌≡◌, ◌+◌, length, drop}
+use Rattle.std.proofs.lemmas.List.Edits.{sets}
 use Rattle.graph.specs.Ends.{targets_of}
 use Rattle.grid.proofs.leads.put_ends.Given as goal
 
--- the ends among the first j records
-abbrev pub up_to : Ends → ℕ → ℕ → List ℕ
-up_to e p j = targets_of p (take j e.owner) (take j e.to)
-
-abbrev pub invariant-loop-j : goal.invariant-loop-j
-invariant-loop-j l = (l.j ≤ l.e.count) × (l.to ≡ sets l.initial.to l.k (up_to l.e l.p l.j)) × (l.end ≡ l.k + length (up_to l.e l.p l.j))
-
-abbrev pub decreases-loop-j : goal.decreases-loop-j
-decreases-loop-j l = l.e.count - l.j
+abbrev pub invariant-loop-l : goal.invariant-loop-l
+invariant-loop-l l =
+    (sets l.to l.end (targets_of l.p (drop l.l-index l.leads)) ≡ sets l.initial.to l.k (targets_of l.p l.leads))
+    × (l.end + length (targets_of l.p (drop l.l-index l.leads)) ≡ l.k + length (targets_of l.p l.leads))

@@ -1,47 +1,30 @@
--- `placing::rows_of`: the invariant says what is found so far, or what is left to look at.
+-- `placing::rows_of`: a turn is a step of the definition.
 -- Assumes nothing.
-use mathlib.Core.Path.{◌≡◌, refl, ap, sym, ◌∙◌}
-use native.Mathlib.Omega.{arith}
+use Rattle.std.proofs.Common.{◌≡◌, refl, ap, sym, ◌∙◌}
 use borrow.Author.Tests.{lt-ltb, le-ltb}
-use borrow.Author.Tests.{le-leb, lt-leb}
 use Rattle.laws.specs.Each.{each}
 use Rattle.laws.proofs.Each.{next}
-use Rattle.grid.specs.Cells.{no_cells, placed, cells_in}
-use borrow.Author.Rules.{rules}
+use Rattle.grid.specs.Cells.{no_cells, placed}
 use Rattle.grid.proofs.placing.rows_of.Goals as goal
-
-pub returns-then-s-gt48 : goal.returns-then-s-gt48
-unfolding cells_in
-returns-then-s-gt48 c = rw (lt-leb _ _ c.if-s-gt48.true)
+use Rattle.grid.proofs.placing.rows_of.Goals.{then-b-lt48+then-b-lt144, else-b-lt48, else-b-lt48-via-then-b-lt48+else-b-lt144, else-b-lt48-via-else-b-lt48}
 
 pub loop-k-init : goal.loop-k-init
 unfolding each
-loop-k-init c = (search rules, refl)
-
-pub loop-k-preserved-then-b-lt144 : goal.loop-k-preserved-then-b-lt144
-loop-k-preserved-then-b-lt144 c =
-    let l = c.loop-k in
-    let step = placed c.args.s.boxes in
-    let e : step l.k l.grid ≡ c.place-next.result = rw (lt-ltb _ _ c.if-b-lt48.true, lt-ltb _ _ c.if-b-lt144.true) (sym c.place-next.ensures) in
-    (search rules, sym e ∙ ap (step l.k) l.invariant.1 ∙ sym (next no_cells step l.k))
-
-pub loop-k-preserved-else-b-lt144 : goal.loop-k-preserved-else-b-lt144
-loop-k-preserved-else-b-lt144 c =
-    let l = c.loop-k in
-    let step = placed c.args.s.boxes in
-    let e : step l.k l.grid ≡ l.grid = rw (lt-ltb _ _ c.if-b-lt48.true, le-ltb _ _ c.if-b-lt144.false) in
-    (search rules, sym e ∙ ap (step l.k) l.invariant.1 ∙ sym (next no_cells step l.k))
+loop-k-init c = refl
 
 pub loop-k-preserved : goal.loop-k-preserved
 loop-k-preserved c =
     let l = c.loop-k in
-    let step = placed c.args.s.boxes in
-    let e : step l.k l.grid ≡ l.grid = rw (le-ltb _ _ c.if-b-lt48.false) in
-    (search rules, sym e ∙ ap (step l.k) l.invariant.1 ∙ sym (next no_cells step l.k))
-
-pub returns : goal.returns
-unfolding cells_in
-returns c =
-    let l = c.loop-k in
-    let e : l.k ≡ c.args.s.count = omega arith in
-    rw (le-leb _ _ c.if-s-gt48.false) (l.invariant.1 ∙ ap (each no_cells (placed c.args.s.boxes)) e)
+    let step = placed c.args.boxes.now in
+    let more : step l.k l.grid ≡ step l.k (each no_cells step l.k) = ap (step l.k) l.invariant in
+    let e : c.if-b-lt48.grid ≡ step l.k l.grid =
+    elim c.if-b-lt48.branch [
+      | then-b-lt48+then-b-lt144 w ↦ w.grid-is ∙ w.place-next.ensures ∙ rw (lt-ltb _ _ w.if-b-lt48.true, lt-ltb _ _ w.if-b-lt144.true) refl
+      | else-b-lt48 w ↦
+          elim w.else-b-lt48.branch [
+            | else-b-lt48-via-then-b-lt48+else-b-lt144 v ↦ w.grid-is ∙ rw (lt-ltb _ _ v.if-b-lt48.true, le-ltb _ _ v.if-b-lt144.false) refl
+            | else-b-lt48-via-else-b-lt48 v ↦ w.grid-is ∙ rw (le-ltb _ _ v.if-b-lt48.false) refl
+          ]
+    ]
+    in
+    e ∙ more ∙ sym (next no_cells step l.k)

@@ -1,26 +1,14 @@
--- `record::boxes_near`: the invariant says what is found so far, or what is left to look at.
+-- `record::boxes_near`: `all`'s answer.
 -- Assumes nothing.
-use Prim.Native.Nat.{◌≤◌}
-use mathlib.Core.Path.{◌≡◌, refl, sym, ◌∙◌}
-use native.Mathlib.Omega.{arith}
-use lib.ListN.{length}
-use Rattle.laws.proofs.Lists.{drop-up, drop_past, mapped_long}
-use Rattle.grid.specs.Record.{no_box}
-use borrow.Author.Rules.{rules}
+use Rattle.std.proofs.Common.{rules, tests, ◌∙◌}
+use Rattle.std.proofs.lemmas.Iterator.{YieldsList-from_slice}
+use Rattle.std.proofs.lemmas.Iterator.Search.{all_from_yields_List}
+use Rattle.grid.specs.Record.{box_near}
+use Rattle.grid.proofs.RecordLaws.{all-is}
 use Rattle.grid.proofs.record.boxes_near.Goals as goal
-use Rattle.grid.proofs.record.boxes_near.Goals.{Start}
-
-room : (z : Start) → z.args.s.count ≤ length z.args.s.boxes
-room z = let e : length z.args.s.boxes ≡ 48 = search (rules, mapped_long) in let h = z.requires in omega arith
-
-pub loop-k-init : goal.loop-k-init
-loop-k-init c = refl
-
-pub returns-then-not-box_near : goal.returns-then-not-box_near
-returns-then-not-box_near c = rw (drop-up no_box c.args.s.count c.args.s.boxes (room (goal.at.returns-then-not-box_near c).Start) c.loop-k.k c.loop-k-test.true, sym c.box_near.ensures ∙ c.if-not-box_near.true) at c.loop-k.invariant
-
-pub loop-k-preserved : goal.loop-k-preserved
-loop-k-preserved c = rw (drop-up no_box c.args.s.count c.args.s.boxes (room (goal.at.loop-k-preserved c).Start) c.loop-k.k c.loop-k-test.true, sym c.box_near.ensures ∙ c.if-not-box_near.false) at c.loop-k.invariant
 
 pub returns : goal.returns
-returns c = rw (drop_past c.args.s.count c.args.s.boxes (room (goal.at.returns c).Start) c.loop-k.k c.loop-k-test.false) at c.loop-k.invariant
+returns c =
+    let a = c.args in
+    all_from_yields_List (box_near a.x a.y) _ _ _ c.all.ensures.ran (YieldsList-from_slice a.boxes.now cc) (λ x b q k. search (rules, tests))
+    ∙ all-is (box_near a.x a.y) a.boxes.now

@@ -1,17 +1,13 @@
--- `render_grid::marked_output`: the invariant says what is found so far, or what is left to look at.
+-- `render_grid::marked_output`: what is left to look at has what is looked for.
 -- Assumes nothing.
-use Prim.Native.Nat.{◌+◌, ◌-◌, ◌*◌, ◌≤◌}
-use mathlib.Core.Path.{◌≡◌}
-use lib.ListN.{drop}
-use Rattle.graph.specs.code.Tables.{owned, items_of}
+use Rattle.std.proofs.Common.{◌≡◌, ◌+◌, ◌*◌, ◌≤◌, drop}
+use Rattle.graph.specs.code.Tables.{owned}
 use Rattle.grid.specs.RenderNode.{outputs_at}
 use Rattle.grid.specs.Curves.{output_at}
 use Rattle.grid.specs.code.Laid.{laid_outputs}
 use Rattle.grid.proofs.render_grid.marked_output.Given as goal
 
-abbrev pub invariant-loop-j : goal.invariant-loop-j
-invariant-loop-j l = (l.j ≤ l.t.count) × (l.x ≤ 1300000000 + 8421640 * l.j)
-    × (output_at (outputs_at l.run.gap l.x l.run.y (owned l.q (drop l.j (items_of l.t)))) l.left ≡ output_at (laid_outputs l.run (owned l.q (items_of l.t))) l.m)
-
-abbrev pub decreases-loop-j : goal.decreases-loop-j
-decreases-loop-j l = l.t.count - l.j
+abbrev pub invariant-loop-e : goal.invariant-loop-e
+invariant-loop-e l =
+    (l.x ≤ 1300000000 + 8421640 * l.e-index)
+    × (output_at (outputs_at l.run.gap l.x l.run.y (owned l.q (drop l.e-index l.items))) l.left ≡ output_at (laid_outputs l.run (owned l.q l.items)) l.m)

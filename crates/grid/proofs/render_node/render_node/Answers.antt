@@ -27,27 +27,6 @@ low t =
       omega (arith, t.text_height-2.ensures, text_le a.b.len),
     )
 
-pub overflow_add-cy : goal.overflow_add-cy
-overflow_add-cy c = omega (arith, c.empty_height-empty.ensures, empty_le c.inner_width-inner.result, c.text_height.ensures, text_le c.args.a.len)
-
-pub overflow_add-cy-2 : goal.overflow_add-cy-2
-overflow_add-cy-2 c = omega (arith, c.empty_height-empty.ensures, empty_le c.inner_width-inner.result, c.text_height.ensures, text_le c.args.a.len)
-
-pub overflow_add-y : goal.overflow_add-y
-overflow_add-y c = omega (arith, c.empty_height-empty.ensures, empty_le c.inner_width-inner.result, c.text_height.ensures, text_le c.args.a.len, c.lines_height.ensures, lines_le c.args.c.count (search rules))
-
-pub overflow_add-y-2 : goal.overflow_add-y-2
-overflow_add-y-2 c = let l = low (goal.at.overflow_add-y-2 c).After-text_height-2 in omega arith
-
-pub first_x-requires : goal.first_x-requires
-first_x-requires c = let l = low (goal.at.first_x-requires c).After-text_height-2 in omega arith
-
-pub first_x-requires-2 : goal.first_x-requires-2
-first_x-requires-2 c = let l = low (goal.at.first_x-requires-2 c).After-text_height-2 in omega arith
-
-pub overflow_add-result-2 : goal.overflow_add-result-2
-overflow_add-result-2 c = let l = low (goal.at.overflow_add-result-2 c).After-text_height-2 in omega arith
-
 pub returns : goal.returns
 unfolding render_from
 returns c =

@@ -1,23 +1,25 @@
--- `codes::push_neighbours` meets its contract: after k turns the first k codes are written.
+-- `codes::push_neighbours` meets its contract: the codes of the targets before k are pushed.
 -- Assumes nothing.
-use Prim.Native.Nat.{◌+◌, ◌-◌}
-use native.Mathlib.Omega.{arith}
-use mathlib.Core.Path.{◌≡◌, refl, ap, ◌∙◌}
-use lib.Seq.{sets}
+use Rattle.std.proofs.Common.{◌≡◌, ℕ, suc, ◌+◌, ◌-◌, ap, ◌∙◌, arith, length}
+use mathlib.Core.Path.{subst}
 use Rattle.laws.specs.Lists.{tabulate}
-use Rattle.laws.proofs.Lists.{sets_next}
-use Rattle.order.specs.code.Codes.{neighbour_code}
-use borrow.Author.Rules.{rules}
+use Rattle.order.specs.code.Codes.{Pushed}
+use Rattle.order.proofs.Pushed.{neighbour_code, neighbours-are, pushed-next}
 use Rattle.order.proofs.codes.push_neighbours.Goals as goal
 
-pub loop-k-init : goal.loop-k-init
-loop-k-init c = (search rules, refl)
-
 pub loop-k-preserved : goal.loop-k-preserved
-loop-k-preserved c = (search rules, rw (sets_next, c.code.ensures, c.loop-k.invariant.1))
+loop-k-preserved c =
+    let l = c.loop-k in
+    let to = c.args.to.now in
+    let f = neighbour_code to in
+    let here : l.k ≡ 1 + (l.k - 1) = omega arith in
+    let next : suc (l.k - 1) ≡ l.k + 1 - 1 = omega arith in
+    let p = pushed-next f 1 (l.k - 1) c.code.result c.args.codes.now l.codes c.push.new.self c.push.result l.invariant.1 (omega arith) (c.code.ensures ∙ ap f here) c.push.ensures.long c.push.ensures.room c.push.ensures.table in
+    (omega arith, subst (λ (k : ℕ). Pushed c.args.codes.now c.push.new.self (tabulate f 1 k)) next p)
 
 pub returns : goal.returns
 returns c =
     let l = c.loop-k in
-    let e : l.k ≡ c.args.count - 1 = omega arith in
-    record { codes = l.invariant.1 ∙ ap (λ k. sets c.args.codes.now c.args.at (tabulate (neighbour_code c.args.to.now) 0 k)) e; end = ap (λ k. c.args.at + k) e }
+    let to = c.args.to.now in
+    let e : l.k - 1 ≡ length to - 1 = omega arith in
+    subst (Pushed c.args.codes.now l.codes) (ap (tabulate (neighbour_code to) 1) e ∙ neighbours-are to) l.invariant.1

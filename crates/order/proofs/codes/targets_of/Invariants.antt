@@ -1,20 +1,9 @@
--- `codes::targets_of` meets its contract: after k turns the array holds the targets among the first k records.
+-- `codes::targets_of` meets its contract: after k turns the table holds the targets among the first k leads.
 -- Assumes nothing.
-use Prim.Native.Nat.{ℕ, ◌-◌, ◌≤◌}
-use mathlib.Core.Path.{◌≡◌}
-use mathlib.Core.List.{List}
-use lib.ListN.{length, take}
-use Rattle.laws.specs.Lists.{padded}
-use Rattle.graph.specs.declared.Ends.{Ends}
+use Rattle.std.proofs.Common.{◌≡◌, take}
 use Rattle.graph.specs.Ends.{targets_of}
+use Rattle.order.specs.code.Codes.{held}
 use Rattle.order.proofs.codes.targets_of.Given as goal
 
--- the targets among the first k records
-abbrev pub up_to : Ends → ℕ → ℕ → List ℕ
-up_to e p k = targets_of p (take k e.owner) (take k e.to)
-
-abbrev pub invariant-loop-k : goal.invariant-loop-k
-invariant-loop-k l = (l.k ≤ l.e.count) × (l.to ≡ padded 88 0 (up_to l.e l.p l.k)) × (l.count ≡ length (up_to l.e l.p l.k))
-
-abbrev pub decreases-loop-k : goal.decreases-loop-k
-decreases-loop-k l = l.e.count - l.k
+abbrev pub invariant-loop-e : goal.invariant-loop-e
+invariant-loop-e l = l.to ≡ held (targets_of l.p (take l.e-index l.leads))

@@ -1,11 +1,7 @@
--- `weights::round` meets its contract: the rows that are not left are done.
+-- `weights::round` meets its contract: the rows before a are done.
 -- Assumes nothing.
-use Prim.Native.Nat.{◌-◌, ◌≤◌}
 use Rattle.order.specs.code.Sums.{Rows}
 use Rattle.order.proofs.weights.round.Given as goal
 
-abbrev pub invariant-loop-left : goal.invariant-loop-left
-invariant-loop-left l = (l.left ≤ l.n) × Rows l.make l.n (l.n - l.left) l.initial.sums l.sums
-
-abbrev pub decreases-loop-left : goal.decreases-loop-left
-decreases-loop-left l = l.left
+abbrev pub invariant-loop-a : goal.invariant-loop-a
+invariant-loop-a l = Rows l.make l.n l.a l.initial.sums l.sums

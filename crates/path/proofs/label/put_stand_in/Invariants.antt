@@ -1,5 +1,4 @@
 -- `label::put_stand_in` meets its contract: after i turns the first i bytes of the text are put. Assumes nothing.
-use Prim.Native.Nat.{◌-◌, ◌≤◌}
 use mathlib.Core.Path.{◌≡◌}
 use lib.ListN.{take}
 use Rattle.path.specs.Writer.{put}
@@ -7,7 +6,4 @@ use Rattle.path.specs.Label.{stand_in}
 use Rattle.path.proofs.label.put_stand_in.Given as goal
 
 abbrev pub invariant-loop-i : goal.invariant-loop-i
-invariant-loop-i l = (l.i ≤ l.len) × (l.table ≡ put l.initial.table l.at (take l.i (stand_in l.j)))
-
-abbrev pub decreases-loop-i : goal.decreases-loop-i
-decreases-loop-i l = l.len - l.i
+invariant-loop-i l = l.table ≡ put l.initial.table l.s.start (take l.i (stand_in l.j))

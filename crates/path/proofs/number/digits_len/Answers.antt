@@ -1,35 +1,11 @@
--- `number::digits_len` meets its contract: each comparison settles one more power of ten. Assumes nothing.
+-- `number::digits_len` meets its contract: a power of ten has one digit more than its exponent. Assumes nothing.
 use mathlib.Core.Path.{sym}
 use native.Mathlib.Omega.{arith}
 use Rattle.path.proofs.Numbers.{length-one, length_from}
 use Rattle.path.proofs.number.digits_len.Goals as goal
 
-pub returns-then-n-lt10 : goal.returns-then-n-lt10
-returns-then-n-lt10 c = sym (length-one _ (omega arith))
+pub returns-in-Some : goal.returns-in-Some
+returns-in-Some c = omega (arith, length_from c.in-Some.power c.args.n c.in-Some.ensures.power_le (omega (arith, c.in-Some.ensures.next_power_gt)))
 
-pub returns-then-n-lt100 : goal.returns-then-n-lt100
-returns-then-n-lt100 c = sym (length_from 1 _ (omega arith) (omega arith))
-
-pub returns-then-n-lt1000 : goal.returns-then-n-lt1000
-returns-then-n-lt1000 c = sym (length_from 2 _ (omega arith) (omega arith))
-
-pub returns-then-n-lt10000 : goal.returns-then-n-lt10000
-returns-then-n-lt10000 c = sym (length_from 3 _ (omega arith) (omega arith))
-
-pub returns-then-n-lt100000 : goal.returns-then-n-lt100000
-returns-then-n-lt100000 c = sym (length_from 4 _ (omega arith) (omega arith))
-
-pub returns-then-n-lt1000000 : goal.returns-then-n-lt1000000
-returns-then-n-lt1000000 c = sym (length_from 5 _ (omega arith) (omega arith))
-
-pub returns-then-n-lt10000000 : goal.returns-then-n-lt10000000
-returns-then-n-lt10000000 c = sym (length_from 6 _ (omega arith) (omega arith))
-
-pub returns-then-n-lt100000000 : goal.returns-then-n-lt100000000
-returns-then-n-lt100000000 c = sym (length_from 7 _ (omega arith) (omega arith))
-
-pub returns-then-n-lt1000000000 : goal.returns-then-n-lt1000000000
-returns-then-n-lt1000000000 c = sym (length_from 8 _ (omega arith) (omega arith))
-
-pub returns : goal.returns
-returns c = sym (length_from 9 _ (omega arith) (omega arith))
+pub returns-in-None : goal.returns-in-None
+returns-in-None c = sym (length-one _ (omega (arith, c.in-None.ensures)))

@@ -1,23 +1,15 @@
 -- `number::put_digits` meets its contract: the digits are written from the last to the first (`Tails`). Assumes nothing.
-use mathlib.Core.Path.{◌≡◌, ap, ◌∙◌}
+use mathlib.Core.Path.{◌≡◌, ap}
 use Prim.Native.Nat.{ℕ, ◌+◌, ◌-◌, ◌*◌, ◌/◌, ◌%◌}
-use native.Mathlib.Nat.{div-lt_self}
 use native.Mathlib.Omega.{arith}
-use lib.ListN.{length-set}
-use Rattle.path.proofs.Tails.{tail-starts, tail-long, tail-room, tail-fits, tail_more, tail-ends, tail-here}
+use Rattle.path.proofs.Tails.{tail-room, tail-fits, tail_more, tail-ends, tail-here}
 use Rattle.path.proofs.number.put_digits.Goals as goal
-
-pub loop-m-init : goal.loop-m-init
-loop-m-init c = tail-starts _ _ _ _ c.digits_len.ensures
 
 pub overflow_sub-i : goal.overflow_sub-i
 overflow_sub-i c = omega (arith, tail-room c.args.buf.now c.args.at c.args.n c.loop-m.buf c.loop-m.m c.loop-m.i c.loop-m.invariant (omega arith))
 
 pub bounds-buf-i : goal.bounds-buf-i
 bounds-buf-i c = omega (arith, tail-room c.args.buf.now c.args.at c.args.n c.loop-m.buf c.loop-m.m c.loop-m.i c.loop-m.invariant (omega arith), tail-fits c.args.buf.now c.args.at c.args.n c.loop-m.buf c.loop-m.m c.loop-m.i c.loop-m.invariant (omega arith))
-
-pub loop-m-smaller : goal.loop-m-smaller
-loop-m-smaller c = div-lt_self (omega arith) (omega arith)
 
 pub loop-m-preserved : goal.loop-m-preserved
 loop-m-preserved c =
@@ -26,9 +18,6 @@ loop-m-preserved c =
 
 pub bounds-buf-at : goal.bounds-buf-at
 bounds-buf-at c = omega (arith, tail-fits c.args.buf.now c.args.at c.args.n c.loop-m.buf c.loop-m.m c.loop-m.i c.loop-m.invariant (omega arith), tail-here c.args.buf.now c.args.at c.args.n c.loop-m.buf c.loop-m.m c.loop-m.i c.loop-m.invariant (omega arith))
-
-pub shape_of-buf : goal.shape_of-buf
-shape_of-buf c = length-set c.loop-m.buf _ _ ∙ tail-long c.args.buf.now c.args.at c.args.n c.loop-m.buf c.loop-m.m c.loop-m.i c.loop-m.invariant
 
 pub returns : goal.returns
 returns c = record { bytes = tail-ends c.args.buf.now c.args.at c.args.n c.loop-m.buf c.loop-m.m c.loop-m.i c.loop-m.invariant (omega arith); after = ap (λ (k : ℕ). c.args.at + k) c.digits_len.ensures }

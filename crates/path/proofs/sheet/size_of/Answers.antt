@@ -6,4 +6,4 @@ use borrow.Author.Rules.{rules}
 use Rattle.path.proofs.sheet.size_of.Goals as goal
 
 pub returns : goal.returns
-returns c = sym (drawn-long c.args.s (search (rules, mapped_long)) (search (rules, mapped_long)) (sound-is c.args.s c.requires))
+returns c = sym (drawn-long c.args.s.now (search (rules, mapped_long)) (search (rules, mapped_long)) (sound-is c.args.s.now c.requires))

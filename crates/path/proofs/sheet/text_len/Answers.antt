@@ -1,84 +1,28 @@
 -- `sheet::text_len` meets its contract: after k turns the length of the text of the first k segments. Assumes nothing.
-use Prim.Native.Nat.{◌<◌}
-use lib.ListN.{get_or}
-use Prim.Native.Nat.{ℕ, ◌-◌, ◌*◌, ◌/◌, ◌≤◌}
 use mathlib.Core.Path.{◌≡◌, refl, ap, ◌∙◌}
 use native.Mathlib.Omega.{arith}
-use lib.ListN.{length, take}
-use lib.Seq.{take-length}
-use mathlib.Core.Bool.{true, cond}
-use lib.Dec.{ltb}
-use Rattle.grid.specs.declared.SheetRecord.{SheetRecord}
-use Rattle.grid.specs.Record.{no_box, no_curve, box_near, curve_near, sound_of}
-use Rattle.path.specs.declared.stroke.Stroke.{Stroke}
+use lib.ListN.{length, get_or}
+use Rattle.path.specs.declared.drawn.Drawn.TheVariants.{Move}
 use Rattle.path.specs.Text.{text_of}
 use Rattle.path.specs.Segments.{drawn_of}
-use Rattle.path.specs.code.Strokes.{IsStroke, size_of, stroke_of, next_text}
-use Rattle.laws.proofs.Lists.{mapped_long}
-use Rattle.path.proofs.Sheets.{sound-is, drawn-long, box-room, curve-room, parts-near, parts_are, drawn-smalls, reach_range, length_to, fits-to, text_bound, drawn-few}
-use borrow.Author.Rules.{rules}
+use Rattle.path.specs.code.Strokes.{next_text}
+use Rattle.path.proofs.Sheets.{drawn-smalls, length_to, fits-to, text_bound, drawn-few}
 use Rattle.path.proofs.sheet.text_len.Goals as goal
-use Rattle.path.proofs.sheet.text_len.Goals.{Start}
+use Rattle.path.proofs.sheet.text_len.Goals.{After-next_len-e}
 
-long-boxes : (z : Start) → length z.args.s.boxes ≡ 48
-long-boxes z = search (rules, mapped_long)
-
-long-curves : (z : Start) → length z.args.s.curves ≡ 88
-long-curves z = search (rules, mapped_long)
-
--- segment k is there, its box and its curve too, and it is the segment that is drawn
-module _ (s : SheetRecord) (b : length s.boxes ≡ 48) (v : length s.curves ≡ 88) (o : sound_of s ≡ true) (k n : ℕ) (e : n ≡ length (drawn_of s)) (h : k < n) where
-  below : k < size_of s
-  below = omega (arith, e, drawn-long s b v (sound-is s o))
-
-  module _ (i j : ℕ) (p : i ≡ cond (ltb k (5 * s.count)) (k / 5) 0) (q : j ≡ cond (ltb k (5 * s.count)) 0 ((k - 5 * s.count) / 2)) where
-    box-there : i < 48
-    box-there = box-room s b v (sound-is s o) k below i j p q
-
-    curve-there : j < 88
-    curve-there = curve-room s b v (sound-is s o) k below i j p q
-
-    near-there : (k < 5 * s.count → box_near s.x s.y (get_or s.boxes i no_box) ≡ true) × (5 * s.count ≤ k → curve_near s.x s.y (get_or s.curves j no_curve) ≡ true)
-    near-there = parts-near s b v (sound-is s o) k below i j p q
-
-    drawing : (t : Stroke) → t ≡ stroke_of s.x s.y (5 * s.count) (get_or s.boxes i no_box) (get_or s.curves j no_curve) k → IsStroke (drawn_of s) k t
-    drawing t = parts_are s b v (sound-is s o) k below i j p q t
+-- the length of segment k's text
+next : (z : After-next_len-e) → z.next_len-e.result ≡ length (next_text z.loop-k.k (get_or (drawn_of z.args.s.now) z.loop-k.k (Move 0 0)))
+next z = z.next_len-e.ensures ∙ ap (λ d. length (next_text z.loop-k.k d)) (z.drawn_of.ensures ∙ z.stroke_at.ensures.same)
 
 pub loop-k-init : goal.loop-k-init
 unfolding text_of
-loop-k-init c = (search rules, refl)
-
-pub offset_bounds-s-i : goal.offset_bounds-s-i
-offset_bounds-s-i c = omega (arith, box-there c.args.s (long-boxes (goal.at.offset_bounds-s-i c).Start) (long-curves (goal.at.offset_bounds-s-i c).Start) c.requires c.loop-k.k c.size_of-n.result c.size_of-n.ensures (omega arith) c.box_at-i.result c.curve_at-j.result c.box_at-i.ensures c.curve_at-j.ensures)
-
-pub bounds-s-i : goal.bounds-s-i
-bounds-s-i c = omega (arith, box-there c.args.s (long-boxes (goal.at.bounds-s-i c).Start) (long-curves (goal.at.bounds-s-i c).Start) c.requires c.loop-k.k c.size_of-n.result c.size_of-n.ensures (omega arith) c.box_at-i.result c.curve_at-j.result c.box_at-i.ensures c.curve_at-j.ensures)
-
-pub offset_bounds-s-j : goal.offset_bounds-s-j
-offset_bounds-s-j c = omega (arith, curve-there c.args.s (long-boxes (goal.at.offset_bounds-s-j c).Start) (long-curves (goal.at.offset_bounds-s-j c).Start) c.requires c.loop-k.k c.size_of-n.result c.size_of-n.ensures (omega arith) c.box_at-i.result c.curve_at-j.result c.box_at-i.ensures c.curve_at-j.ensures)
-
-pub bounds-s-j : goal.bounds-s-j
-bounds-s-j c = omega (arith, curve-there c.args.s (long-boxes (goal.at.bounds-s-j c).Start) (long-curves (goal.at.bounds-s-j c).Start) c.requires c.loop-k.k c.size_of-n.result c.size_of-n.ensures (omega arith) c.box_at-i.result c.curve_at-j.result c.box_at-i.ensures c.curve_at-j.ensures)
-
-pub stroke_of-requires : goal.stroke_of-requires
-stroke_of-requires c = near-there c.args.s (long-boxes (goal.at.stroke_of-requires c).Start) (long-curves (goal.at.stroke_of-requires c).Start) c.requires c.loop-k.k c.size_of-n.result c.size_of-n.ensures (omega arith) c.box_at-i.result c.curve_at-j.result c.box_at-i.ensures c.curve_at-j.ensures
-
-pub drawn_of-d-requires : goal.drawn_of-d-requires
-drawn_of-d-requires c = (drawing c.args.s (long-boxes (goal.at.drawn_of-d-requires c).Start) (long-curves (goal.at.drawn_of-d-requires c).Start) c.requires c.loop-k.k c.size_of-n.result c.size_of-n.ensures (omega arith) c.box_at-i.result c.curve_at-j.result c.box_at-i.ensures c.curve_at-j.ensures c.stroke_of.result c.stroke_of.ensures).reach
-
-pub next_len-e-requires : goal.next_len-e-requires
-next_len-e-requires c = rw c.drawn_of-d.ensures (reach_range c.stroke_of.result (drawing c.args.s (long-boxes (goal.at.next_len-e-requires c).Start) (long-curves (goal.at.next_len-e-requires c).Start) c.requires c.loop-k.k c.size_of-n.result c.size_of-n.ensures (omega arith) c.box_at-i.result c.curve_at-j.result c.box_at-i.ensures c.curve_at-j.ensures c.stroke_of.result c.stroke_of.ensures).reach)
+loop-k-init c = refl
 
 pub overflow_add-e : goal.overflow_add-e
 overflow_add-e c =
-    let s = c.args.s in
-    omega (arith, c.loop-k.invariant.1, (c.next_len-e.ensures ∙ ap (λ z. length (next_text c.loop-k.k z)) (c.drawn_of-d.ensures ∙ (drawing c.args.s (long-boxes (goal.at.overflow_add-e c).Start) (long-curves (goal.at.overflow_add-e c).Start) c.requires c.loop-k.k c.size_of-n.result c.size_of-n.ensures (omega arith) c.box_at-i.result c.curve_at-j.result c.box_at-i.ensures c.curve_at-j.ensures c.stroke_of.result c.stroke_of.ensures).same)), fits-to (drawn_of s) c.loop-k.k (omega (arith, c.size_of-n.ensures)), text_bound (drawn_of s) (drawn-smalls s c.requires), drawn-few s c.requires)
+    let ds = drawn_of c.args.s.now in
+    omega (arith, c.loop-k.invariant, next (goal.at.overflow_add-e c).After-next_len-e, fits-to ds c.loop-k.k (omega (arith, c.size_of-k-end.ensures)), text_bound ds (drawn-smalls c.args.s.now c.requires), drawn-few c.args.s.now c.requires)
 
 pub loop-k-preserved : goal.loop-k-preserved
-loop-k-preserved c = (search rules, omega (arith, c.loop-k.invariant.1, (c.next_len-e.ensures ∙ ap (λ z. length (next_text c.loop-k.k z)) (c.drawn_of-d.ensures ∙ (drawing c.args.s (long-boxes (goal.at.loop-k-preserved c).Start) (long-curves (goal.at.loop-k-preserved c).Start) c.requires c.loop-k.k c.size_of-n.result c.size_of-n.ensures (omega arith) c.box_at-i.result c.curve_at-j.result c.box_at-i.ensures c.curve_at-j.ensures c.stroke_of.result c.stroke_of.ensures).same)), length_to (drawn_of c.args.s) c.loop-k.k (omega (arith, c.size_of-n.ensures))))
-
-pub returns : goal.returns
-returns c =
-    let s = c.args.s in
-    let e : c.loop-k.k ≡ length (drawn_of s) = omega (arith, c.size_of-n.ensures) in
-    c.loop-k.invariant.1 ∙ ap (λ (z : ℕ). length (text_of (take z (drawn_of s)))) e ∙ ap (λ z. length (text_of z)) (take-length (drawn_of s))
+loop-k-preserved c =
+    omega (arith, c.loop-k.invariant, next (goal.at.loop-k-preserved c).After-next_len-e, length_to (drawn_of c.args.s.now) c.loop-k.k (omega (arith, c.size_of-k-end.ensures)))

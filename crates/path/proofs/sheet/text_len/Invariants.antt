@@ -1,5 +1,4 @@
 -- `sheet::text_len` meets its contract: after k turns the length of the text of the first k segments. Assumes nothing.
-use Prim.Native.Nat.{◌-◌, ◌≤◌}
 use mathlib.Core.Path.{◌≡◌}
 use lib.ListN.{length, take}
 use Rattle.path.specs.Text.{text_of}
@@ -7,7 +6,4 @@ use Rattle.path.specs.Segments.{drawn_of}
 use Rattle.path.proofs.sheet.text_len.Given as goal
 
 abbrev pub invariant-loop-k : goal.invariant-loop-k
-invariant-loop-k l = (l.k ≤ l.n) × (l.e ≡ length (text_of (take l.k (drawn_of l.s))))
-
-abbrev pub decreases-loop-k : goal.decreases-loop-k
-decreases-loop-k l = l.n - l.k
+invariant-loop-k l = l.e ≡ length (text_of (take l.k (drawn_of l.s)))

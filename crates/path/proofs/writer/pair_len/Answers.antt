@@ -1,6 +1,5 @@
 -- `writer::pair_len` meets its contract. Assumes nothing.
 use native.Mathlib.Omega.{arith}
-use Rattle.path.proofs.Words.{pair-length}
 use Rattle.path.proofs.Numbers.{number_bound}
 use Rattle.path.proofs.writer.pair_len.Goals as goal
 
@@ -9,6 +8,3 @@ overflow_add-result c = omega (arith, c.number_len.ensures, c.number_len-2.ensur
 
 pub overflow_add-result-2 : goal.overflow_add-result-2
 overflow_add-result-2 c = omega (arith, c.number_len.ensures, c.number_len-2.ensures, number_bound c.args.x, number_bound c.args.y)
-
-pub returns : goal.returns
-returns c = omega (arith, c.number_len.ensures, c.number_len-2.ensures, pair-length c.args.x c.args.y)

@@ -1,9 +1,6 @@
 -- `writer::segment_len` meets its contract: the lengths of the parts. Assumes nothing.
-use mathlib.Core.Path.{sym, ap}
 use native.Mathlib.Omega.{arith}
-use lib.ListN.{length}
-use Rattle.path.proofs.Words.{pair_bound, cubic-length}
-use Rattle.path.specs.Text.{segment_text}
+use Rattle.path.proofs.Words.{pair_bound}
 use Rattle.path.proofs.writer.segment_len.Goals as goal
 
 pub overflow_add-result : goal.overflow_add-result
@@ -20,15 +17,3 @@ overflow_add-result-in-Cubic-2 c = omega (arith, c.pair_len-in-Cubic.ensures, pa
 
 pub overflow_add-result-in-Cubic-3 : goal.overflow_add-result-in-Cubic-3
 overflow_add-result-in-Cubic-3 c = omega (arith, c.pair_len-in-Cubic.ensures, pair_bound c.in-Cubic.a c.in-Cubic.b, c.pair_len-in-Cubic-2.ensures, pair_bound c.in-Cubic.c c.in-Cubic.d, c.pair_len-in-Cubic-3.ensures, pair_bound c.in-Cubic.x c.in-Cubic.y)
-
-pub returns-in-Move : goal.returns-in-Move
-returns-in-Move c = omega (arith, c.pair_len.ensures, ap (λ k. length (segment_text k)) c.in-Move.is)
-
-pub returns-in-Line : goal.returns-in-Line
-returns-in-Line c = omega (arith, c.pair_len-in-Line.ensures, ap (λ k. length (segment_text k)) c.in-Line.is)
-
-pub returns-in-Cubic : goal.returns-in-Cubic
-returns-in-Cubic c = omega (arith, c.pair_len-in-Cubic.ensures, c.pair_len-in-Cubic-2.ensures, c.pair_len-in-Cubic-3.ensures, ap (λ k. length (segment_text k)) c.in-Cubic.is, cubic-length c.in-Cubic.a c.in-Cubic.b c.in-Cubic.c c.in-Cubic.d c.in-Cubic.x c.in-Cubic.y)
-
-pub returns-in-Close : goal.returns-in-Close
-returns-in-Close c = ap (λ k. length (segment_text k)) (sym c.in-Close.is)

@@ -1,0 +1,3 @@
+-- What a listing says.
+pub mod Listings
+pub mod Cases

@@ -1,0 +1,103 @@
+// The lines of a listing: a sheet, its boxes and its path, or a refusal, as the program `listing` prints them.
+#![tactic(auto)]
+
+ghost use Rattle.std.specs.Prelude.{OnOk, ◌≤◌, length, take};
+ghost use Rattle.std.specs.Io.KnownBytes.{Appends};
+ghost use Rattle.listings.specs.Listings.{
+  size_line,
+  box_line,
+  box_lines,
+  path_line,
+  text_line,
+  refused_line,
+  sheet_lines,
+  listing_of,
+};
+
+use chart::Setting;
+use grid::{BoxRecord, SheetRecord};
+use refusals::Numbers;
+use std::io;
+use std::io::Write;
+
+// Room for the text of any sheet: a sound one's has at most 9,887 bytes.
+const ROOM: usize = 9887;
+
+fn print_size<W: Write>(out: &mut W, s: &SheetRecord) -> io::Result<()>
+    ensures { OnOk result (Appends (W.contents out.old) (W.contents out.new) (size_line s.now)) }
+{
+    writeln!(
+        out,
+        "sheet {} {} {} {} {} {}",
+        s.columns, s.rows, s.width, s.height, s.count, s.cuts
+    )
+}
+
+fn print_box<W: Write>(out: &mut W, k: usize, b: &BoxRecord) -> io::Result<()>
+    ensures { OnOk result (Appends (W.contents out.old) (W.contents out.new) (box_line k b.now)) }
+{
+    writeln!(
+        out,
+        "box {k} {} {} {} {} {} {}",
+        b.column, b.row, b.x, b.y, b.width, b.height
+    )
+}
+
+fn print_boxes<W: Write>(out: &mut W, boxes: &[BoxRecord]) -> io::Result<()>
+    ensures { OnOk result (Appends (W.contents out.old) (W.contents out.new) (box_lines 0 boxes.now)) }
+{
+    for (k, b) in boxes.iter().enumerate() {
+        print_box(out, k, b)?;
+    }
+    Ok(())
+}
+
+// The path's text, or `path` alone if it is empty.
+fn print_text<W: Write>(out: &mut W, text: &[u8]) -> io::Result<()>
+    ensures { OnOk result (Appends (W.contents out.old) (W.contents out.new) (text_line text.now)) }
+{
+    out.write_all(b"path")?;
+    if !text.is_empty() {
+        out.write_all(b" ")?;
+    }
+    out.write_all(text)?;
+    out.write_all(b"\n")
+}
+
+fn print_refusal<W: Write>(out: &mut W, n: Numbers) -> io::Result<()>
+    ensures { OnOk result (Appends (W.contents out.old) (W.contents out.new) (refused_line n)) }
+{
+    writeln!(out, "refused {} {}", n.first, n.second)
+}
+
+// The path of a sound sheet; of any other, that it is refused.
+fn print_path<W: Write>(out: &mut W, s: &SheetRecord) -> io::Result<()>
+    ensures { OnOk result (Appends (W.contents out.old) (W.contents out.new) (path_line s.now)) }
+{
+    let mut text = [0; ROOM];
+    match path::write_sheet(s, &mut text) {
+        Ok(n) => print_text(out, &text[..n]),
+        Err(why) => print_refusal(out, why.numbers()),
+    }
+}
+
+// What the listing says of a sheet: its size, its boxes, its path.
+pub fn print_sheet<W: Write>(out: &mut W, s: &SheetRecord) -> io::Result<()>
+    ensures { OnOk result (Appends (W.contents out.old) (W.contents out.new) (sheet_lines s.now)) }
+{
+    print_size(out, s)?;
+    let boxes = &s.boxes[..];
+    let count = (s.count as usize).min(boxes.len());
+    print_boxes(out, &boxes[..count])?;
+    print_path(out, s)
+}
+
+// The listing of a chart: its sheet at the origin 0 0, or the first refusal.
+pub fn print_listing<W: Write>(out: &mut W, chart: &[u8], setting: Setting) -> io::Result<()>
+    ensures { OnOk result (Appends (W.contents out.old) (W.contents out.new) (listing_of setting chart.now)) }
+{
+    match grid::sheet(chart, 0, 0, setting) {
+        Ok(s) => print_sheet(out, &s),
+        Err(why) => print_refusal(out, why.numbers()),
+    }
+}

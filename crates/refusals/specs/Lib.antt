@@ -1,0 +1,2 @@
+-- The refusals of documents 01 and 02.
+pub mod Refusals

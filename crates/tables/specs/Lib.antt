@@ -1,0 +1,2 @@
+-- Tables: arrays with a count.
+pub mod Tables
