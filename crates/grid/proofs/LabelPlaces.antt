@@ -36,6 +36,8 @@ use Rattle.order.specs.Chains.{columns as first_columns}
 use Rattle.grid.specs.declared.BoxRecord.{BoxRecord}
 use Rattle.grid.specs.declared.SheetRecord.{SheetRecord}
 use Rattle.grid.specs.declared.LabelPlace.{LabelPlace}
+use Rattle.grid.specs.declared.TextPlace.{TextPlace}
+use Rattle.grid.specs.declared.TextPlace.TheVariants.{InChart, InTable}
 use Rattle.grid.specs.Lists.{total}
 use Rattle.grid.specs.Record.{no_box}
 use Rattle.grid.specs.Heights.{heights}
@@ -166,15 +168,16 @@ Held s (invalid t) = (0 < t) × (t < 256)
 abbrev pub fixed_line : ℕ → Line
 fixed_line j = cond (ltb j 32) (number j) (invalid (j - 31))
 
--- how many characters a label has
-abbrev pub characters_of : LabelPlace → ℕ
-characters_of p = cond p.fixed (line_length (fixed_line p.number)) p.len
+-- how many characters a label's text has
+abbrev pub characters_of : TextPlace → ℕ
+characters_of (InChart at len) = len
+characters_of (InTable q) = line_length (fixed_line q)
 
 pub record Lies (s : List ℕ) (p : LabelPlace) : Type 0 where
-  pub whole : p.fixed ≡ false → Whole s p.at p.len
-  pub below : p.fixed ≡ true → p.number < 287
+  pub whole : (at len : ℕ) → p.text ≡ InChart at len → Whole s at len
+  pub below : (q : ℕ) → p.text ≡ InTable q → q < 287
   -- 'The rule for widths moves from bytes to characters'
-  pub wide : p.width ≡ character_width p.size * characters_of p
+  pub wide : p.width ≡ character_width p.size * characters_of p.text
 
 module _ (v : Setting) (s : List ℕ) where
   abbrev Kept : Text → Type 0
@@ -185,18 +188,18 @@ module _ (v : Setting) (s : List ℕ) where
   Short p = 0 < p.len → Whole s p.at p.len
 
   place-lies : (x y size width : ℕ) (l : Line) → Held s l → width ≡ character_width size * line_length l → Lies s (place_of (record { x = x; y = y; size = size; width = width; line = l }))
-  place-lies x y size width (given p) h w = record { whole = λ e. h; below = λ e. let z : ◌≡◌ {A = ℕ} 0 1 = cc in absurd (omega arith); wide = w }
+  place-lies x y size width (given p) h w = record { whole = λ at len e. let a : p.at ≡ at = cc in let b : p.len ≡ len = cc in rw (a, b) at h; below = λ q e. let z : ◌≡◌ {A = ℕ} 0 1 = cc in absurd (omega arith); wide = w }
   place-lies x y size width (number q) h w =
       record {
-        whole = λ e. let z : ◌≡◌ {A = ℕ} 0 1 = cc in absurd (omega arith);
-        below = λ e. omega (arith, h);
+        whole = λ at len e. let z : ◌≡◌ {A = ℕ} 0 1 = cc in absurd (omega arith);
+        below = λ r e. let a : q ≡ r = cc in omega (arith, h, a);
         wide = rw (lt-ltb q 32 h) w;
       }
   place-lies x y size width (invalid t) h w =
       let z : t + 31 - 31 ≡ t = omega arith in
       record {
-        whole = λ e. let z : ◌≡◌ {A = ℕ} 0 1 = cc in absurd (omega arith);
-        below = λ e. omega (arith, h.1);
+        whole = λ at len e. let z : ◌≡◌ {A = ℕ} 0 1 = cc in absurd (omega arith);
+        below = λ r e. let a : t + 31 ≡ r = cc in omega (arith, h.1, a);
         wide = rw (le-ltb (t + 31) 32 (omega (arith, h.0)), z) w;
       }
 

@@ -8,8 +8,8 @@ ghost use Rattle.grid.specs.code.Rendered.{Seated};
 ghost use Rattle.grid.specs.code.Laid.{Low};
 ghost use Rattle.grid.specs.code.Sited.{seek, node_label};
 
-use crate::LabelPlace;
 use crate::render_node::{Run, name_line, node_of};
+use crate::{LabelPlace, TextPlace};
 use chart::Lines;
 use graph::{Items, Name, Tables};
 
@@ -31,10 +31,10 @@ fn end_label(t: &Items, p: u8, run: Run, i: usize) -> Result<LabelPlace, usize>
                         y: run.y,
                         size: 232,
                         width,
-                        fixed: false,
-                        at: e.at,
-                        len: e.len,
-                        number: 0,
+                        text: TextPlace::InChart {
+                            at: e.at,
+                            len: e.len,
+                        },
                     });
                 }
                 left -= 1;
@@ -63,10 +63,7 @@ fn name_label(name: Name, x: u32, wy: u32, i: usize) -> Result<LabelPlace, usize
         y: wy + 512 - 192,
         size: 464,
         width: 256 * (name_line(name).longest as u32),
-        fixed: true,
-        at: 0,
-        len: 0,
-        number,
+        text: TextPlace::InTable(number),
     })
 }
 
@@ -86,10 +83,10 @@ fn line_label(t: &Lines, name: Name, p: u8, x: u32, wy: u32, i: usize) -> Result
                     y: y + 512 - 192,
                     size: 464,
                     width: 256 * (e.len as u32),
-                    fixed: false,
-                    at: e.at,
-                    len: e.len,
-                    number: 0,
+                    text: TextPlace::InChart {
+                        at: e.at,
+                        len: e.len,
+                    },
                 });
             }
             left -= 1;

@@ -81,17 +81,21 @@ pub struct SheetRecord {
     pub curves: [Curve; 88],
 }
 
-// The place of a label, its size and its width; its text is the `len` characters of the chart at `at`, or where `fixed`, the fixed text of the number.
-#[derive(Clone, Copy, Default)]
+// Where a label's text stands: so many characters of the chart from a place on, or a text of the stand-in table by its number.
+#[derive(Clone, Copy)]
+pub enum TextPlace {
+    InChart { at: u16, len: u8 },
+    InTable(u16),
+}
+
+// The place of a label, its size and its width, and where its text stands.
+#[derive(Clone, Copy)]
 pub struct LabelPlace {
     pub x: u32,
     pub y: u32,
     pub size: u32,
     pub width: u32,
-    pub fixed: bool,
-    pub at: u16,
-    pub len: u8,
-    pub number: u16,
+    pub text: TextPlace,
 }
 
 // The sheet of a cut graph with these first columns.

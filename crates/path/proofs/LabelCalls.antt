@@ -2,21 +2,23 @@
 -- Assumes nothing.
 use Prim.Native.Nat.{ℕ, ◌+◌, ◌-◌, ◌*◌, ◌≤◌, ◌<◌}
 use native.Mathlib.Omega.{arith}
-use mathlib.Core.Path.{◌≡◌, refl, sym, ap, subst, ◌∙◌}
-use mathlib.Core.Bool.{Bool, true, false, cond, ◌&&◌}
+use mathlib.Core.Path.{◌≡◌, refl, ap, subst, ◌∙◌}
+use mathlib.Core.Bool.{Bool, true, false, cond}
 use mathlib.Core.List.{List}
 use lib.Dec.{leb}
 use lib.ListN.{length}
 use borrow.Author.Tests.{le-leb}
 use Rattle.laws.specs.Bytes.{same}
 use Rattle.laws.proofs.Lists.{same_true, same_self}
-use Rattle.std.specs.Prelude.{Result, Ok, Err}
+use Rattle.std.specs.Prelude.{⊤, Result, Ok, Err}
 use Rattle.refusals.specs.declared.Refusal.{Refusal}
 use Rattle.refusals.specs.declared.Refusal.TheVariants.{NotThere}
 use Rattle.chart.specs.declared.Setting.{Setting}
-use Rattle.chart.specs.Text.{empty, characters_in, ending}
+use Rattle.chart.specs.Text.{empty, characters_in}
 use Rattle.chart.proofs.Gives.{ending-from}
 use Rattle.grid.specs.declared.LabelPlace.{LabelPlace}
+use Rattle.grid.specs.declared.TextPlace.{TextPlace}
+use Rattle.grid.specs.declared.TextPlace.TheVariants.{InChart, InTable}
 use Rattle.grid.specs.Labels.{character_width}
 use Rattle.grid.specs.Labelled.{Labelled, ready, refusal, labelled, label_place_of}
 use Rattle.graph.proofs.Gathers.{Bytes}
@@ -25,7 +27,7 @@ use Rattle.std.specs.declared.ops.Range.{Range}
 use denote.Ref.{Bor}
 use Rattle.path.specs.declared.PlacedLabel.{PlacedLabel}
 use Rattle.path.specs.declared.LabelSpan.{LabelSpan}
-use Rattle.path.specs.Label.{chart, table, part_at, text_at, IsAt, stand_in, stand_ins_to, stand_ins, stand_in_span, tabled, placed_in, range_of, part_in, place_in, label_part_of, LabelText, IsLabelPart, span_of, span_in, label_span_of, IsLabelSpan}
+use Rattle.path.specs.Label.{part_at, text_at, IsAt, stand_in, stand_ins_to, stand_ins, stand_in_span, tabled, placed_in, range_of, in_table, part_in, place_in, label_part_of, LabelText, IsLabelPart, span_of, label_span_of, IsLabelSpan}
 use Rattle.path.proofs.Labels.{stand-ins-long, stand_in_reads, stand_in_within, stand_in_texted, stand_in_counted, span-rises, span-within, ending-most}
 
 -- ---- the table
@@ -54,6 +56,11 @@ tabled-ready t (ready q) p e = go (same t stand_ins) refl e
 tabled-ready t (refusal why) p e = let z : ◌≡◌ {A = ℕ} 0 1 = cc in absurd (omega arith)
 
 -- ---- the part
+-- the numbers of a place in the chart are of two bytes and of one
+abbrev pub Low : TextPlace → Type 0
+Low (InChart at len) = (at < 65536) × (len < 256)
+Low (InTable q) = ⊤
+
 module _ (w : Setting) (s t : List ℕ) (bytes : Bytes s) (x y k i : ℕ) (r : Result LabelPlace Refusal) (e : r ≡ label_place_of (tabled t (labelled w s x y k i))) (p : LabelPlace) (a : r ≡ Ok p) where
   pub judged : tabled t (labelled w s x y k i) ≡ ready p
   judged = label-is (tabled t (labelled w s x y k i)) r p e a
@@ -64,43 +71,39 @@ module _ (w : Setting) (s t : List ℕ) (bytes : Bytes s) (x y k i : ℕ) (r : R
   lies : Lies s p
   lies = labelled_lies w s bytes x y k i p found.0
 
-  pub number_small : p.fixed ≡ true → p.number < 287
+  pub number_small : (q : ℕ) → p.text ≡ InTable q → q < 287
   number_small = lies.below
 
   long : length t ≡ 3293
   long = ap length (same_true t stand_ins found.1) ∙ stand-ins-long
 
   -- where the part stands
-  pub record Lain (q : Range ℕ) : Type 0 where
+  pub record Lain (z : TextPlace) (q : Range ℕ) : Type 0 where
     pub rises : q.start ≤ q.end
-    pub within : q.end ≤ cond p.fixed (length t) (length s)
-    pub short : p.at < 65536 → p.len < 256 → q.end ≤ 66045
+    pub within : q.end ≤ cond (in_table z) (length t) (length s)
+    pub short : Low z → q.end ≤ 66045
 
-  lain-by : (b : Bool) → p.fixed ≡ b → Lain (range_of s p)
-  lain-by true f =
-      let z : range_of s p ≡ stand_in_span p.number = rw f in
-      let h = span-within p.number (range_of s p) z (lies.below f) in
-      let w : (range_of s p).end ≤ length t = omega (arith, h, long) in
-      record { rises = span-rises p.number (range_of s p) z; within = subst (λ (b : Bool). (range_of s p).end ≤ cond b (length t) (length s)) (sym f) w; short = λ u v. omega (arith, h) }
-  lain-by false f =
-      let z : range_of s p ≡ record { start = p.at; end = ending p.len s p.at } = rw f in
-      let v : ending p.len s p.at ≤ length s = (lies.whole f).inside in
-      record { rises = rw z (ending-from p.len s p.at); within = rw (z, f) v; short = λ u o. rw z (omega (arith, u, o, ending-most p.len s p.at)) }
+  lain-by : (z : TextPlace) → p.text ≡ z → Lain z (range_of s z)
+  lain-by (InChart at len) f =
+      record { rises = ending-from len s at; within = (lies.whole at len f).inside; short = λ u. omega (arith, u.0, u.1, ending-most len s at) }
+  lain-by (InTable n) f =
+      let h = span-within n (stand_in_span n) refl (lies.below n f) in
+      record { rises = span-rises n (stand_in_span n) refl; within = omega (arith, h, long); short = λ u. omega (arith, h) }
 
-  module _ (q : Range ℕ) (h : q ≡ range_of s p) where
-    pub lain : Lain q
-    lain = rw h (lain-by p.fixed refl)
+  module _ (q : Range ℕ) (h : q ≡ range_of s p.text) where
+    pub lain : Lain p.text q
+    lain = rw h (lain-by p.text refl)
 
-    part-is : part_at p.fixed q.start q.end (length s) (length t) ≡ label_part_of s t (labelled w s x y k i)
+    part-is : part_at (in_table p.text) q.start q.end (length s) (length t) ≡ label_part_of s t (labelled w s x y k i)
     part-is =
         let u : leb q.start q.end ≡ true = le-leb q.start q.end lain.rises in
-        let v : leb q.end (cond p.fixed (length t) (length s)) ≡ true = le-leb q.end (cond p.fixed (length t) (length s)) lain.within in
+        let v : leb q.end (cond (in_table p.text) (length t) (length s)) ≡ true = le-leb q.end (cond (in_table p.text) (length t) (length s)) lain.within in
         rw (u, v, judged, h)
 
-    pub span-is : Ok (record { fixed = p.fixed; at = q.start; len = q.end - q.start }) ≡ label_span_of s t (labelled w s x y k i)
-    span-is = rw (judged, h) (go p.fixed)
+    pub span-is : Ok (record { fixed = in_table p.text; at = q.start; len = q.end - q.start }) ≡ label_span_of s t (labelled w s x y k i)
+    span-is = rw (judged, h) (go (in_table p.text))
       where
-        go : (b : Bool) → ◌≡◌ {A = Result LabelSpan Refusal} (Ok (record { fixed = b; at = (range_of s p).start; len = (range_of s p).end - (range_of s p).start })) (Ok (span_of (part_in b (range_of s p))))
+        go : (b : Bool) → ◌≡◌ {A = Result LabelSpan Refusal} (Ok (record { fixed = b; at = (range_of s p.text).start; len = (range_of s p.text).end - (range_of s p.text).start })) (Ok (span_of (part_in b (range_of s p.text))))
         go true = refl
         go false = refl
 
@@ -117,38 +120,37 @@ wide-by : (p : LabelPlace) (l : PlacedLabel) (b : List ℕ) → placed_in (ready
 wide-by p l b e f = let z : record { x = p.x; y = p.y; size = p.size; width = p.width } ≡ l = cc in subst (λ (u : PlacedLabel). u.width ≡ character_width u.size * characters_in b) z f
 
 -- one of the fixed texts
-fixed_text : (s t : List ℕ) (p : LabelPlace) → Lies s p → same t stand_ins ≡ true → p.fixed ≡ true → LabelText s t (ready p)
-fixed_text s t p l f e =
-    let q : ℕ = p.number in
+fixed_text : (s t : List ℕ) (p : LabelPlace) → Lies s p → same t stand_ins ≡ true → (q : ℕ) → p.text ≡ InTable q → LabelText s t (ready p)
+fixed_text s t p l f q e =
     let is : t ≡ stand_ins = same_true t stand_ins f in
-    let w : length (stand_ins_to q) + length (stand_in q) ≤ 3293 = stand_in_within q (l.below e) in
+    let w : length (stand_ins_to q) + length (stand_in q) ≤ 3293 = stand_in_within q (l.below q e) in
     let long : length t ≡ 3293 = ap length is ∙ stand-ins-long in
     let len : length (stand_ins_to q) + length (stand_in q) - length (stand_ins_to q) ≡ length (stand_in q) = omega arith in
-    let reads : text_at s t (place_in s (ready p)) ≡ stand_in q = rw (e, len, is) (stand_in_reads q (l.below e)) in
+    let reads : text_at s t (place_in s (ready p)) ≡ stand_in q = rw (e, len, is) (stand_in_reads q (l.below q e)) in
     record {
       within = rw e (omega arith, omega arith);
-      texted = rw reads (stand_in_texted q (l.below e));
-      wide = λ u f. wide-by p u (text_at s t (place_in s (ready p))) f (rw (reads, stand_in_counted q (l.below e)) (l.wide ∙ rw e));
+      texted = rw reads (stand_in_texted q (l.below q e));
+      wide = λ u f. wide-by p u (text_at s t (place_in s (ready p))) f (rw (reads, stand_in_counted q (l.below q e)) (l.wide ∙ rw e));
       none = λ u f. let z : ◌≡◌ {A = ℕ} 0 1 = cc in absurd (omega arith);
     }
 
 -- a text of the chart
-given-text : (s t : List ℕ) (p : LabelPlace) → Lies s p → p.fixed ≡ false → LabelText s t (ready p)
-given-text s t p l e =
-    let h = l.whole e in
+given-text : (s t : List ℕ) (p : LabelPlace) → Lies s p → (at len : ℕ) → p.text ≡ InChart at len → LabelText s t (ready p)
+given-text s t p l at len e =
+    let h = l.whole at len e in
     record {
-      within = rw e (ending-from p.len s p.at, h.inside);
+      within = rw e (ending-from len s at, h.inside);
       texted = rw e h.texted;
       wide = λ u f. wide-by p u (text_at s t (place_in s (ready p))) f (rw (e, h.counted) (l.wide ∙ rw e));
       none = λ u f. let z : ◌≡◌ {A = ℕ} 0 1 = cc in absurd (omega arith);
     }
 
-place-text : (s t : List ℕ) (p : LabelPlace) → Lies s p → same t stand_ins ≡ true → (b : Bool) → p.fixed ≡ b → LabelText s t (ready p)
-place-text s t p l f true e = fixed_text s t p l f e
-place-text s t p l f false e = given-text s t p l e
+place-text : (s t : List ℕ) (p : LabelPlace) → Lies s p → same t stand_ins ≡ true → (x : TextPlace) → p.text ≡ x → LabelText s t (ready p)
+place-text s t p l f (InChart at len) e = given-text s t p l at len e
+place-text s t p l f (InTable q) e = fixed_text s t p l f q e
 
 tabled-text : (s t : List ℕ) (v : Labelled) → ((p : LabelPlace) → v ≡ ready p → Lies s p) → (b : Bool) → same t stand_ins ≡ b → LabelText s t (tabled t v)
-tabled-text s t (ready p) h true e = rw e (place-text s t p (h p refl) e p.fixed refl)
+tabled-text s t (ready p) h true e = rw e (place-text s t p (h p refl) e p.text refl)
 tabled-text s t (ready p) h false e = rw e (refused-text s t NotThere)
 tabled-text s t (refusal why) h b e = refused-text s t why
 
@@ -159,7 +161,7 @@ module _ (w : Setting) (s t : Bor (List ℕ)) (bytes : Bytes s.now) (x y k i : �
   text : LabelText s.now t.now (tabled t.now (labelled w s.now x y k i))
   text = label_text w s.now t.now bytes x y k i
 
-  pub found_part : (p : LabelPlace) → r ≡ Ok p → (q : Range ℕ) → q ≡ range_of s.now p → IsAt (part_at p.fixed q.start q.end (length s.now) (length t.now)) s t u → IsLabelPart s t (labelled w s.now x y k i) u
+  pub found_part : (p : LabelPlace) → r ≡ Ok p → (q : Range ℕ) → q ≡ range_of s.now p.text → IsAt (part_at (in_table p.text) q.start q.end (length s.now) (length t.now)) s t u → IsLabelPart s t (labelled w s.now x y k i) u
   found_part p a q h at = record { is = rw (part-is w s.now t.now bytes x y k i r e p a q h) at at; text = text }
 
   pub no_part : (why : Refusal) → r ≡ Err why → IsAt (part_at false 0 0 (length s.now) (length t.now)) s t u → IsLabelPart s t (labelled w s.now x y k i) u

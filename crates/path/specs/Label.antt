@@ -8,7 +8,8 @@ use Rattle.laws.specs.Bytes.{ascii, same}
 use Rattle.refusals.specs.declared.Refusal.{Refusal}
 use Rattle.refusals.specs.declared.Refusal.TheVariants.{NotThere}
 use Rattle.chart.specs.Text.{Texted, characters_in, ending}
-use Rattle.grid.specs.declared.LabelPlace.{LabelPlace}
+use Rattle.grid.specs.declared.TextPlace.{TextPlace}
+use Rattle.grid.specs.declared.TextPlace.TheVariants.{InChart, InTable}
 use Rattle.grid.specs.Labels.{character_width}
 use Rattle.grid.specs.Labelled.{Labelled, ready, refusal}
 use Rattle.std.specs.declared.ops.Range.{Range}
@@ -83,16 +84,22 @@ placed_in (refusal why) = Err why
 abbrev pub placed_label_of : List ℕ → Labelled → Result PlacedLabel Refusal
 placed_label_of t l = placed_in (tabled t l)
 
--- where a label's text stands: in the table its fixed text, in the chart s so many characters
-abbrev pub range_of : List ℕ → LabelPlace → Range ℕ
-range_of s p = cond p.fixed (stand_in_span p.number) (record { start = p.at; end = ending p.len s p.at })
+-- where a label's text stands: in the chart s so many characters, in the table its fixed text
+abbrev pub range_of : List ℕ → TextPlace → Range ℕ
+range_of s (InChart at len) = record { start = at; end = ending len s at }
+range_of s (InTable q) = stand_in_span q
+
+-- which of the two it is
+abbrev pub in_table : TextPlace → Bool
+in_table (InChart at len) = false
+in_table (InTable q) = true
 
 abbrev pub part_in : Bool → Range ℕ → Place
 part_in fixed r = cond fixed (table r.start r.end) (chart r.start r.end)
 
 -- 'the other the part, which if refused is the empty one at the chart's start'
 abbrev pub place_in : List ℕ → Labelled → Place
-place_in s (ready p) = part_in p.fixed (range_of s p)
+place_in s (ready p) = part_in (in_table p.text) (range_of s p.text)
 place_in s (refusal why) = chart 0 0
 
 abbrev pub label_part_of : List ℕ → List ℕ → Labelled → Place

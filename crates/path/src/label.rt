@@ -1,13 +1,14 @@
 // Labels: a text that is a part of the chart or of the stand-in table, and that table.
-ghost use Rattle.std.specs.Prelude.{◌≡◌, ◌+◌, ◌≤◌, ◌<◌, true, length, get_or, take, drop};
+ghost use Rattle.std.specs.Prelude.{ℕ, ◌≡◌, ◌+◌, ◌≤◌, ◌<◌, length, get_or, take, drop};
 ghost use Rattle.laws.specs.Bytes.{ascii, same};
 ghost use Rattle.chart.specs.Text.{character_bytes, ending};
 ghost use Rattle.path.specs.Writer.{put};
-ghost use Rattle.path.specs.Label.{part_at, IsAt, stand_in, stand_ins_to, stand_ins, stand_in_span, range_of};
+ghost use Rattle.grid.specs.declared.TextPlace.TheVariants.{InTable};
+ghost use Rattle.path.specs.Label.{part_at, IsAt, stand_in, stand_ins_to, stand_ins, stand_in_span, in_table, range_of};
 ghost use Rattle.path.specs.code.StandIns.{shown_in, places_of, digit_of};
 
 use chart::BYTE_C2;
-use grid::LabelPlace;
+use grid::TextPlace;
 use std::ops::Range;
 
 // The stand-in table has so many texts and so many bytes.
@@ -158,13 +159,20 @@ pub fn put_stand_in(table: &mut [u8; TABLE_BYTES], j: u16)
     }
 }
 
-// Where the text of a label begins and ends: in the table where it is fixed, and else in the chart.
-pub fn range_of(chart: &[u8], place: &LabelPlace) -> Range<usize>
-    requires number { place.now.fixed ≡ true → place.now.number < 287 }
-    ensures { result ≡ range_of chart.now place.now }
+// Whether a label's text stands in the table, and not in the chart.
+pub fn in_table(text: TextPlace) -> bool
+    ensures { result ≡ in_table text }
 {
-    if place.fixed {
-        return stand_in(place.number);
+    matches!(text, TextPlace::InTable(_))
+}
+
+// Where the text of a label begins and ends, in the chart or in the table.
+pub fn range_of(chart: &[u8], text: TextPlace) -> Range<usize>
+    requires number { (q : ℕ) → text ≡ InTable q → q < 287 }
+    ensures { result ≡ range_of chart.now text }
+{
+    match text {
+        TextPlace::InChart { at, len } => at as usize..text_end(chart, at, len),
+        TextPlace::InTable(q) => stand_in(q),
     }
-    place.at as usize..text_end(chart, place.at, place.len)
 }

@@ -12,7 +12,7 @@ ghost use Rattle.path.specs.Label.{stand_ins, tabled, placed_label_of, IsLabelPa
 use chart::Setting;
 use drawn::segment_of;
 use grid::{LabelPlace, SheetRecord, sound};
-use label::{TABLE_BYTES, TEXTS, is_stand_ins, part_of, put_stand_in, range_of};
+use label::{TABLE_BYTES, TEXTS, in_table, is_stand_ins, part_of, put_stand_in, range_of};
 use pass::{drawn_six, pass_over};
 use reader::judge;
 use refusals::{Refusal, TextRefusal};
@@ -193,7 +193,12 @@ pub fn label_part<'a>(
     ensures { IsLabelPart chart.entry table.entry (labelled setting chart.now x y k i) result }
 {
     match find_label(chart, x, y, setting, table, k, i) {
-        Ok(place) => part_of(chart, table, place.fixed, range_of(chart, &place)),
+        Ok(place) => part_of(
+            chart,
+            table,
+            in_table(place.text),
+            range_of(chart, place.text),
+        ),
         Err(_) => part_of(chart, table, false, 0..0),
     }
 }
@@ -211,9 +216,9 @@ pub fn label_span(
     ensures { IsLabelSpan chart.now table.now (labelled setting chart.now x y k i) result }
 {
     let place = find_label(chart, x, y, setting, table, k, i)?;
-    let part = range_of(chart, &place);
+    let part = range_of(chart, place.text);
     Ok(LabelSpan {
-        fixed: place.fixed,
+        fixed: in_table(place.text),
         at: part.start as u32,
         len: (part.end - part.start) as u32,
     })

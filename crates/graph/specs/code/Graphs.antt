@@ -25,10 +25,6 @@ use Rattle.graph.specs.Outcome.{table_of, answer_of, no_item}
 abbrev pub empty_table : Items
 empty_table = record { items = replicate 88 no_item; count = 0 }
 
--- the empty tables, as the code makes them
-abbrev pub no_nodes : Tables
-no_nodes = record { n = 0; cuts = 0; names = replicate 48 Nothing; lines = empty_lines; sources = empty_table; sinks = empty_table }
-
 abbrev pub dag_in : Tables → Dag
 dag_in t = record { graph = graph_of t; cuts = t.cuts }
 

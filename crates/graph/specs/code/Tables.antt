@@ -96,12 +96,6 @@ pub record Linked (t : Tables) : Type 0 where
 
 -- ---- the records
 
--- r is t with the record x after the others
-pub record Pushed (t : Items) (x : Item) (r : Items) : Type 0 where
-  pub items : items_of r ≡ items_of t ++ one x
-  pub count : r.count ≡ t.count + 1
-  pub whole : r ≡ record { items = set t.items t.count x; count = t.count + 1 }
-
 -- a record of the chart, unmarked
 abbrev pub unmarked_item : GivenItem → Item
 unmarked_item x = record { owner = x.owner; to = x.to; mark = 0; at = x.at; len = x.len }

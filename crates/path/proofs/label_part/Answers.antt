@@ -26,7 +26,8 @@ range_of-requires c =
 pub returns-in-Ok : goal.returns-in-Ok
 returns-in-Ok c =
     let a = c.args in
-    found_part a.setting a.chart a.table (bytes (goal.at.returns-in-Ok c).After-find_label) a.x a.y a.k a.i c.find_label.result c.find_label.ensures c.part_of.result c.in-Ok.place c.in-Ok.is c.range_of.result c.range_of.ensures c.part_of.ensures
+    found_part a.setting a.chart a.table (bytes (goal.at.returns-in-Ok c).After-find_label) a.x a.y a.k a.i c.find_label.result c.find_label.ensures c.part_of.result c.in-Ok.place c.in-Ok.is c.range_of.result c.range_of.ensures
+    (rw c.in_table.ensures at c.part_of.ensures)
 
 pub returns-in-Err : goal.returns-in-Err
 returns-in-Err c =

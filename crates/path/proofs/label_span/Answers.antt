@@ -1,18 +1,18 @@
 -- `label_span`: the numbers of the label's range, by the laws of `LabelCalls`.
 -- Assumes nothing.
 use lib.ListN.{get_or}
-use Prim.Native.Nat.{ℕ, ◌≤◌, ◌<◌}
+use Prim.Native.Nat.{ℕ, ◌≤◌}
 use mir.Syntax.{w8}
 use mir.Val.{Fits}
 use native.Mathlib.Omega.{arith}
-use mathlib.Core.Path.{◌≡◌, ◌∙◌, ap}
+use mathlib.Core.Path.{◌≡◌, ◌∙◌}
 use mathlib.Core.List.{List}
 use borrow.Author.Rules.{rules}
-use Rattle.std.specs.Prelude.{Result, Err}
+use Rattle.std.specs.Prelude.{Err}
 use Rattle.grid.specs.Labelled.{labelled}
 use Rattle.graph.proofs.Gathers.{Bytes}
-use Rattle.path.specs.Label.{tabled, span_in}
-use Rattle.path.proofs.LabelCalls.{refusal-is, number_small, Lain, lain, span-is, is_label_span}
+use Rattle.path.specs.Label.{tabled}
+use Rattle.path.proofs.LabelCalls.{refusal-is, Low, number_small, lain, span-is, is_label_span}
 use Rattle.path.proofs.label_span.Goals as goal
 use Rattle.path.proofs.label_span.Goals.{After-find_label, After-range_of-part}
 
@@ -41,10 +41,9 @@ part : (c : After-range_of-part) → (c.range_of-part.result.start ≤ c.range_o
 part c =
     let a = c.args in
     let p = c.in_ok-place.place in
-    let at : p.at < 65536 = search rules in
-    let len : p.len < 256 = search rules in
+    let low : Low p.text = search rules in
     let l = lain a.setting a.chart.now a.table.now (bytes_of a.chart.now c.type_inv.chart) a.x a.y a.k a.i c.find_label.result c.find_label.ensures c.in_ok-place.place c.in_ok-place.was c.range_of-part.result c.range_of-part.ensures in
-    (l.rises, l.short at len)
+    (l.rises, l.short low)
 
 pub overflow_cast-result : goal.overflow_cast-result
 overflow_cast-result c = let h = part (goal.at.overflow_cast-result c).After-range_of-part in omega (arith, h.0, h.1)
@@ -60,4 +59,5 @@ returns c =
     let a = c.args in
     let b = bytes (goal.at.returns c).After-find_label in
     is_label_span a.setting a.chart.now a.table.now b a.x a.y a.k a.i _
-    (span-is a.setting a.chart.now a.table.now b a.x a.y a.k a.i c.find_label.result c.find_label.ensures c.in_ok-place.place c.in_ok-place.was c.range_of-part.result c.range_of-part.ensures)
+    (rw c.in_table.ensures
+    (span-is a.setting a.chart.now a.table.now b a.x a.y a.k a.i c.find_label.result c.find_label.ensures c.in_ok-place.place c.in_ok-place.was c.range_of-part.result c.range_of-part.ensures))
