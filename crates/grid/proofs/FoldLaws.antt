@@ -8,7 +8,7 @@ use mathlib.Core.Path.{◌≡◌, refl, ap, sym, ◌∙◌}
 use mathlib.Core.Bool.{Bool, ◌&&◌, ◌||◌}
 use mathlib.Core.List.{List, [], ◌∷◌, ◌++◌, map, append_assoc}
 use lib.Dec.{eqb}
-use lib.ListN.{length, set, take, drop, replicate, length-set}
+use lib.ListN.{length, set, take, replicate, length-set}
 use lib.Seq.{get_or-take, take-suc-set}
 use Rattle.laws.proofs.Tests.{or_false, or_assoc}
 use Rattle.grid.specs.Columns.{at, taken, extra, new_columns, pairs_from, table, fold_from}
@@ -69,22 +69,6 @@ pub next-next : (more : ℕ → ℕ) (start p a m : ℕ) → a ≡ next_new more
 next-next more start p a m e f =
     let z : next_new more (p + 1) start start ≡ next_new more (suc p) start start = ap (λ (y : ℕ). next_new more y start start) (add-one p) in
     omega (arith, next_more more p start start, z)
-
--- the first k columns went by the table: the next one, and its store
-pub renamed-at : (f : ℕ → ℕ) (cols : List ℕ) (k : ℕ) → at (map f (take k cols) ++ drop k cols) k ≡ at cols k
-renamed-at f [] zero = refl
-renamed-at f [] (suc k) = refl
-renamed-at f (c ∷ cols) zero = refl
-renamed-at f (c ∷ cols) (suc k) = renamed-at f cols k
-
-renamed_suc : (f : ℕ → ℕ) (cols : List ℕ) (k : ℕ) → set (map f (take k cols) ++ drop k cols) k (f (at cols k)) ≡ map f (take (suc k) cols) ++ drop (suc k) cols
-renamed_suc f [] zero = refl
-renamed_suc f [] (suc k) = refl
-renamed_suc f (c ∷ cols) zero = refl
-renamed_suc f (c ∷ cols) (suc k) = ap (λ (l : List ℕ). f c ∷ l) (renamed_suc f cols k)
-
-pub renamed-more : (f : ℕ → ℕ) (cols : List ℕ) (k : ℕ) → set (map f (take k cols) ++ drop k cols) k (f (at cols k)) ≡ map f (take (k + 1) cols) ++ drop (k + 1) cols
-renamed-more f cols k = renamed_suc f cols k ∙ ap (λ (i : ℕ). map f (take i cols) ++ drop i cols) (sym (add-one k))
 
 -- two tables that agree where the columns are
 pub renamed-same : (f g : ℕ → ℕ) (cols : List ℕ) → ((k : ℕ) → k < length cols → f (at cols k) ≡ g (at cols k)) → map f cols ≡ map g cols

@@ -64,13 +64,13 @@ fn new_columns(used: &[u32; 240], height: u8, start: u8, pairs: u8) -> [u8; 146]
     table
 }
 
-// Each box's column by the table. (By index: of what `iter_mut` lends the check knows no value.)
+// Each box's column by the table.
 fn rename(cols: &mut [u8], table: &[u8; 146])
     requires { Inside 146 cols.old }
     ensures { cols.new ≡ map (at table.now) cols.old }
 {
-    for k in 0..cols.len() {
-        cols[k] = table[cols[k] as usize];
+    for x in cols.iter_mut() {
+        *x = table[*x as usize];
     }
 }
 

@@ -1,14 +1,13 @@
--- `columns::rename`: one box more goes by the table at each turn.
+-- `columns::rename`: each turn takes the next box by the table.
 -- Assumes nothing.
-use Rattle.std.proofs.Common.{◌≡◌, ap, ◌∙◌}
+use Rattle.std.proofs.Common.{get_or, arith}
+use Rattle.std.proofs.lemmas.List.Edits.{map_over_more}
+use Rattle.laws.proofs.Lists.{get_d_any}
 use Rattle.grid.specs.Columns.{at}
-use Rattle.grid.proofs.FoldLaws.{renamed-at, renamed-more}
 use Rattle.grid.proofs.columns.rename.Goals as goal
-use Rattle.grid.proofs.columns.rename.Goals.{In-loop-k}
 
--- the column of box k, which has not gone yet
-now-is : (c : In-loop-k) → at c.loop-k.cols c.loop-k.k ≡ at c.args.cols.now c.loop-k.k
-now-is c = ap (λ u. at u c.loop-k.k) c.loop-k.invariant ∙ renamed-at (at c.args.table.now) c.args.cols.now c.loop-k.k
-
-pub loop-k-preserved : goal.loop-k-preserved
-loop-k-preserved c = rw (now-is (goal.at.loop-k-preserved c).In-loop-k, c.loop-k.invariant) (renamed-more (at c.args.table.now) c.args.cols.now c.loop-k.k)
+pub loop-x-preserved : goal.loop-x-preserved
+loop-x-preserved c =
+    let l = c.loop-x in
+    map_over_more (at c.args.table.now) c.args.cols.now l.cols l.x-index (get_or l.cols l.x-index 0) c.loop-x-test.true l.invariant
+    (get_d_any l.cols l.x-index 0 (get_or l.cols l.x-index 0) (omega (arith, c.loop-x-test.true)))

@@ -4,5 +4,5 @@ use Rattle.std.proofs.Common.{◌≡◌, ◌++◌, map, take, drop}
 use Rattle.grid.specs.Columns.{at}
 use Rattle.grid.proofs.columns.rename.Given as goal
 
-abbrev pub invariant-loop-k : goal.invariant-loop-k
-invariant-loop-k l = l.cols ≡ map (at l.table) (take l.k l.initial.cols) ++ drop l.k l.initial.cols
+abbrev pub invariant-loop-x : goal.invariant-loop-x
+invariant-loop-x l = l.cols ≡ map (at l.table) (take l.x-index l.initial.cols) ++ drop l.x-index l.initial.cols
