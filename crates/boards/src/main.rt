@@ -2,11 +2,9 @@
 #![tactic(auto)]
 
 use chart::{Board, Item, Setting};
+use lines::{Program, ROOM};
 use std::io;
-use std::io::{BufWriter, Read, Write};
-
-// How many bytes of standard input are read.
-const ROOM: u64 = 1048576;
+use std::io::{BufWriter, Write};
 
 fn print_items<W: Write>(out: &mut W, name: &str, items: &[Item]) -> io::Result<()> {
     for x in items {
@@ -24,22 +22,22 @@ fn print_board<W: Write>(out: &mut W, b: &Board) -> io::Result<()> {
     print_items(out, "sink", b.sinks.as_slice())
 }
 
-fn print_hex<W: Write>(out: &mut W, line: &[u8]) -> io::Result<()> {
-    let mut bytes = [0u8; 65536];
-    let n = lines::decode(line, &mut bytes);
-    match chart::read(&bytes[..n], Setting::Strict) {
-        Ok(board) => print_board(out, &board)?,
-        Err(why) => writeln!(out, "{}", why.numbers())?,
+struct Boards;
+
+impl Program for Boards {
+    fn print<W: Write>(out: &mut W, line: &[u8]) -> io::Result<()> {
+        let mut bytes = [0u8; 65536];
+        let n = lines::decode(line, &mut bytes);
+        match chart::read(&bytes[..n], Setting::Strict) {
+            Ok(board) => print_board(out, &board)?,
+            Err(why) => writeln!(out, "{}", why.numbers())?,
+        }
+        writeln!(out)
     }
-    writeln!(out)
 }
 
 fn main(rt: HostRuntime) -> io::Result<()> {
-    let mut text = Vec::new(rt.alloc());
-    rt.reader().take(ROOM).read_to_end(&mut text)?;
     let mut out = BufWriter::new(rt.alloc(), io::writer(&rt))?;
-    for line in lines::lines(&text) {
-        print_hex(&mut out, line)?;
-    }
+    lines::run::<Boards, _, _, _>(rt.reader(), ROOM, &mut out, rt.alloc())?;
     out.flush()
 }

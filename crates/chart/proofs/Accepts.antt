@@ -1,6 +1,6 @@
 -- An accepted chart is within document 01's limits; and the answer of `read` is the definition's.
 -- Assumes nothing.
-use Prim.Native.Nat.{ℕ, suc, ◌+◌, ◌-◌, ◌*◌, ◌≤◌, ◌<◌}
+use Prim.Native.Nat.{ℕ, suc, ◌+◌, ◌*◌, ◌≤◌, ◌<◌}
 use native.Mathlib.Omega.{arith}
 use mathlib.Core.Path.{◌≡◌, refl, ap, sym, ◌∙◌}
 use Rattle.std.specs.Prelude.{Option, Some, None, Result, Ok, Err}
@@ -10,23 +10,23 @@ use mathlib.Core.Bool.{Bool, true, false, cond}
 use mathlib.Core.List.{List, [], ◌∷◌, ◌++◌}
 use lib.Dec.{eqb, leb, ltb}
 use lib.ListN.{length, get_or}
-use borrow.Author.Tests.{lt-ltb, le-ltb, le-leb, lt-leb, ne_eqb, ltb-true, ltb-false, leb-true, leb-false}
+use borrow.Author.Tests.{lt-ltb, le-ltb, ne_eqb, ltb-true, ltb-false, leb-true}
 use Rattle.chart.specs.declared.Line.{Line}
 use Rattle.chart.specs.declared.Board.{Board as Tables}
 use Rattle.chart.specs.declared.Setting.{Setting}
 use Rattle.chart.specs.declared.Setting.TheVariants.{Default, Strict}
 use Rattle.chart.specs.Chart.{End, Node, Board, Reading, ready, refusal, Got, got, refused, ends_of, targets, targets_of, first_outside, outside_in, judge_targets, judge, judged, under_two, bodies, chart}
 use Rattle.refusals.specs.declared.Refusal.TheVariants.{OneByte, Outside, BytesAfter, CutContents, ManyEnds, ManyNodes, OtherFormat}
-use Rattle.chart.specs.Tables.{item_of, line_of, sources_from, lines_from, sinks_from, board_tables}
-use Rattle.chart.specs.code.Filled.{empty_board, board_of, tables_of}
-use Rattle.chart.specs.code.Steps.{Into, nodes_into}
-use Rattle.laws.specs.Lists.{All, capped}
-use Rattle.laws.proofs.Lists.{all_map, all-flat, capped-room, capped-full}
+use Rattle.chart.specs.Tables.{item_of, line_of, sources_from, lines_from, sinks_from, no_item, no_line}
+use Rattle.chart.specs.code.Filled.{empty_board, board_of, with_nodes, tables_of}
+use Rattle.chart.specs.code.Steps.{told, made}
+use Rattle.laws.specs.Lists.{All}
+use Rattle.laws.proofs.Lists.{all_map, all-flat, take-padded}
 use Rattle.chart.specs.Accepted.{Fitting, EndFits, Aimed, Formed, Accepted}
 use Rattle.chart.specs.Read.{answer_of, IsRead}
 use Rattle.chart.specs.code.Reads.{reading_of, read_of, Owned, Sound, Reads, outside_judged, judged_of}
 use Rattle.chart.proofs.Gives.{Gives, Shaped, Bodies, ending-from, bodies_give}
-use Rattle.chart.proofs.Held.{LowNode, tables-are, board-held, ends-count, lines-count, table-back, lines-back, tables-held}
+use Rattle.chart.proofs.Held.{LowNode, board-held, ends-count, lines-count, tables-held}
 
 -- ---- the targets
 all_append : {A : Type 0} (P : A → Type 0) (xs ys : List A) → All P (xs ++ ys) → All P xs × All P ys
@@ -156,11 +156,6 @@ module _ (s : List ℕ) (size : length s ≤ 5026) where
   shaped-held : (ps : Board) → All (Shaped s) ps → length ps ≤ 32 → ends_of ps ≤ 64 → board_of (tables_of (length ps) ps) ≡ ps
   shaped-held ps h n e = board-held ps (all_map shaped-low ps h) (all_map (λ p f. f.few) ps h) n e
 
-accepted-tables : (w : Setting) (s : List ℕ) (ps : Board) → Accepted w s ps → tables_of (length ps) ps ≡ board_tables ps
-accepted-tables w s ps a =
-    let h : All (Shaped s) ps = all_map (formed-shaped s a.size w (length ps)) ps a.formed in
-    tables-are ps (all_map (shaped-low s a.size) ps h) (all_map (λ p f. f.few) ps h) a.nodes a.ends
-
 pub accepted-held : (w : Setting) (s : List ℕ) (ps : Board) → Accepted w s ps → board_of (tables_of (length ps) ps) ≡ ps
 accepted-held w s ps a = shaped-held s a.size ps (all_map (formed-shaped s a.size w (length ps)) ps a.formed) a.nodes a.ends
 
@@ -177,11 +172,11 @@ sound-held w s ps a =
     rw (tables-held n ps)
     (record {
       nodes = a.nodes;
-      ends = omega (arith, capped-room 64 (length xs) i, capped-room 64 (length ys) k, ends-count 0 ps, a.ends);
-      lines = omega (arith, capped-room 128 (length ls) few);
-      sources = rw (table-back xs i) (all-flat item_of (λ (q : Node). q.sources) n (Aimed w s n) (Owned n) (λ p e l h. l) 0 ps (omega arith) (all_map (λ p f. f.sources) ps a.formed));
-      owners = rw (lines-back ls few) (all-flat line_of (λ (q : Node). q.lines) n (Fitting s) (λ (x : Line). x.owner < n) (λ p e l h. l) 0 ps (omega arith) (all_map (λ p f. f.lines) ps a.formed));
-      sinks = rw (table-back ys k) (all-flat item_of (λ (q : Node). q.sinks) n (Aimed w s n) (Owned n) (λ p e l h. l) 0 ps (omega arith) (all_map (λ p f. f.sinks) ps a.formed));
+      ends = omega (arith, ends-count 0 ps, a.ends);
+      lines = few;
+      sources = rw (take-padded 64 no_item xs i) (all-flat item_of (λ (q : Node). q.sources) n (Aimed w s n) (Owned n) (λ p e l h. l) 0 ps (omega arith) (all_map (λ p f. f.sources) ps a.formed));
+      owners = rw (take-padded 128 no_line ls few) (all-flat line_of (λ (q : Node). q.lines) n (Fitting s) (λ (x : Line). x.owner < n) (λ p e l h. l) 0 ps (omega arith) (all_map (λ p f. f.lines) ps a.formed));
+      sinks = rw (take-padded 64 no_item ys k) (all-flat item_of (λ (q : Node). q.sinks) n (Aimed w s n) (Owned n) (λ p e l h. l) 0 ps (omega arith) (all_map (λ p f. f.sinks) ps a.formed));
     })
 
 -- ---- the contract of `read`
@@ -201,19 +196,20 @@ module _ (w : Setting) (s : List ℕ) (b : Tables) where
   sound-of (ready ps) e h = let z : tables_of (length ps) ps ≡ b = cc in rw (← z) (sound-held w s ps (accepted w s ps e))
   sound-of (refusal why) e h = absurd (err_ok h)
 
-read_same : (w : Setting) (s : List ℕ) (g : Reading) → chart w s ≡ g → read_of g ≡ answer_of g
-read_same w s (ready ps) e = ap Ok (accepted-tables w s ps (accepted w s ps e))
-read_same w s (refusal why) e = refl
+-- the tables as the code makes them are those of the definition
+read_same : (g : Reading) → read_of g ≡ answer_of g
+read_same (ready ps) = ap Ok (tables-held (length ps) ps)
+read_same (refusal why) = refl
 
 pub is_read : (w : Setting) (s : List ℕ) (r : Result Tables Refusal) → r ≡ read_of (chart w s) → IsRead w s r
 is_read w s r e =
-    let h : r ≡ answer_of (chart w s) = e ∙ read_same w s (chart w s) refl in
+    let h : r ≡ answer_of (chart w s) = e ∙ read_same (chart w s) in
     record { whole = h; refused = λ why q. h ∙ ap answer_of q; numbers = λ why q. ap numbers_in (h ∙ ap answer_of q); limits = accepted w s }
 
 -- what the crates above take from it
 pub reads_of : (w : Setting) (s : List ℕ) (r : Result Tables Refusal) → IsRead w s r → Reads w s r
 reads_of w s r i =
-    let e : r ≡ read_of (chart w s) = i.whole ∙ sym (read_same w s (chart w s) refl) in
+    let e : r ≡ read_of (chart w s) = i.whole ∙ sym (read_same (chart w s)) in
     record {
       reads = rw e (reads-back w s (chart w s) refl);
       whole = e;
@@ -221,28 +217,31 @@ reads_of w s r i =
       sound = λ b h. sound-of w s b (chart w s) refl (sym e ∙ h);
     }
 
+-- ---- what was got
+refused_got : {A : Type 0} {why : Refusal} {x : A} {at : ℕ} → ◌≡◌ {A = Got A} (refused why) (got x at) → ⊥
+refused_got e = let z : ◌≡◌ {A = ℕ} 0 1 = cc in omega arith
+
+same-refusal : {A : Type 0} {v w : Refusal} → ◌≡◌ {A = Got A} (refused v) (refused w) → v ≡ w
+same-refusal e = cc
+
+same-value : {A : Type 0} {x y : A} {a b : ℕ} → got x a ≡ got y b → x ≡ y
+same-value e = cc
+
+same_place : {A : Type 0} {x y : A} {a b : ℕ} → got x a ≡ got y b → a ≡ b
+same_place e = cc
+
 -- ---- 11 and 12, from the tables
 -- a board once it is judged
 abbrev pub judged_as : Tables → Result (Unit {0}) Refusal → Result Tables Refusal
 judged_as b (Ok u) = Ok b
 judged_as b (Err why) = Err why
 
-capped-more : (k m : ℕ) → m < k → m ≤ 64 → m < capped 64 k
-capped-more k m h l = go (leb k 64)
-  where
-    go : (b : Bool) → m < cond b k (64 + 1)
-    go true = h
-    go false = omega arith
-
 module _ (w : Setting) (s : List ℕ) (n : ℕ) (small : n ≤ 32) (qs : Board) (at : ℕ) (h : Bodies s n (2 + 2 * n) qs at) (all : length s ≤ at) where
   abbrev b : Tables
   b = tables_of n qs
 
-  sources-count : b.sources.count ≡ capped 64 (length (sources_from 0 qs))
-  sources-count = ap (λ (t : Tables). t.sources.count) (tables-held n qs)
-
-  sinks-count : b.sinks.count ≡ capped 64 (length (sinks_from 0 qs))
-  sinks-count = ap (λ (t : Tables). t.sinks.count) (tables-held n qs)
+  ends-counted : b.sources.count + b.sinks.count ≡ ends_of qs
+  ends-counted = rw (tables-held n qs) (ends-count 0 qs)
 
   nodes-count : b.n ≡ n
   nodes-count = ap (λ (t : Tables). t.n) (tables-held n qs)
@@ -251,61 +250,43 @@ module _ (w : Setting) (s : List ℕ) (n : ℕ) (small : n ≤ 32) (qs : Board) 
   outcome None = rw h.count
   outcome (Some t) = refl
 
-  few-ends : ends_of qs ≤ 64 → judged_as b (judged_of w b) ≡ read_of (judge_targets (outside_in w (targets_of qs) n) qs)
-  few-ends m =
-      let c : b.sources.count ≡ length (sources_from 0 qs) = sources-count ∙ capped-room 64 (length (sources_from 0 qs)) (omega (arith, ends-count 0 qs)) in
-      let d : b.sinks.count ≡ length (sinks_from 0 qs) = sinks-count ∙ capped-room 64 (length (sinks_from 0 qs)) (omega (arith, ends-count 0 qs)) in
-      let i : leb b.sources.count 64 ≡ true = le-leb b.sources.count 64 (omega (arith, ends-count 0 qs)) in
-      let j : leb b.sinks.count (64 - b.sources.count) ≡ true = le-leb b.sinks.count (64 - b.sources.count) (omega (arith, ends-count 0 qs)) in
-      let held : board_of (tables_of n qs) ≡ qs = rw (← h.count) (shaped-held s (omega arith) qs h.shaped (omega arith) m) in
-      rw (i, j, held) (ap (λ (m : ℕ). judged_as b (outside_judged (outside_in w (targets_of qs) m))) nodes-count ∙ outcome (outside_in w (targets_of qs) n))
-
-  many-ends : 64 < ends_of qs → judged_as b (judged_of w b) ≡ read_of (refusal ManyEnds)
-  many-ends m = go (leb (length (sources_from 0 qs)) 64) refl
-    where
-      go : (a : Bool) → leb (length (sources_from 0 qs)) 64 ≡ a → judged_as b (judged_of w b) ≡ read_of (refusal ManyEnds)
-      go true e =
-          let k : length (sources_from 0 qs) ≤ 64 = leb-true (length (sources_from 0 qs)) 64 e in
-          let c : b.sources.count ≡ length (sources_from 0 qs) = sources-count ∙ capped-room 64 (length (sources_from 0 qs)) k in
-          let d : 64 - length (sources_from 0 qs) < b.sinks.count = rw sinks-count (capped-more (length (sinks_from 0 qs)) (64 - length (sources_from 0 qs)) (omega (arith, ends-count 0 qs)) (omega arith)) in
-          let i : leb b.sources.count 64 ≡ true = le-leb b.sources.count 64 (omega arith) in
-          let j : leb b.sinks.count (64 - b.sources.count) ≡ false = lt-leb b.sinks.count (64 - b.sources.count) (omega arith) in
-          rw (i, j)
-      go false e =
-          let k : 64 < length (sources_from 0 qs) = leb-false (length (sources_from 0 qs)) 64 e in
-          let c : b.sources.count ≡ 65 = sources-count ∙ capped-full 64 (length (sources_from 0 qs)) k in
-          let i : leb b.sources.count 64 ≡ false = lt-leb b.sources.count 64 (omega arith) in
-          rw i
-
   tables-judged : judged_as b (judged_of w b) ≡ read_of (judge w s n qs at)
-  tables-judged = go (leb (ends_of qs) 64) refl
+  tables-judged = rw (le-ltb at (length s) all, ends-counted) (go (leb (ends_of qs) 64) refl)
     where
-      go : (a : Bool) → leb (ends_of qs) 64 ≡ a → judged_as b (judged_of w b) ≡ read_of (judge w s n qs at)
-      go true e = rw (le-ltb at (length s) all, e) (few-ends (leb-true (ends_of qs) 64 e))
-      go false e = rw (le-ltb at (length s) all, e) (many-ends (leb-false (ends_of qs) 64 e))
+      go : (a : Bool) → leb (ends_of qs) 64 ≡ a
+          → judged_as b (cond a (outside_judged (outside_in w (targets_of (board_of b)) b.n)) (Err ManyEnds)) ≡ read_of (cond a (judge_targets (outside_in w (targets_of qs) n) qs) (refusal ManyEnds))
+      go true e =
+          let m : ends_of qs ≤ 64 = leb-true (ends_of qs) 64 e in
+          let held : board_of b ≡ qs = rw (← h.count) (shaped-held s (omega arith) qs h.shaped (omega arith) m) in
+          rw held (ap (λ (m : ℕ). judged_as b (outside_judged (outside_in w (targets_of qs) m))) nodes-count ∙ outcome (outside_in w (targets_of qs) n))
+      go false e = refl
 
--- ---- what the bodies' answer says of the chart
-module _ (w : Setting) (s : List ℕ) (n : ℕ) (b : Tables) (r : Result ℕ Refusal) where
-  pub read-refused : (g : Got Board) → Into (nodes_into (empty_board n) 0 g) r b → (why : Refusal) → r ≡ Err why → Err why ≡ read_of (judged w s n g)
-  read-refused (got qs at) i why e = absurd (err_ok (sym e ∙ i.0))
-  read-refused (refused v) i why e = let z : why ≡ v = cc in rw z
+-- ---- what the bodies' answer says of the chart: r, the place `at` reached and the tables b
+module _ (w : Setting) (s : List ℕ) (n : ℕ) (b : Tables) (r : Result (Unit {0}) Refusal) (at : ℕ) where
+  -- the bodies were read, or not, and put into the tables
+  abbrev Filling : Got Board → Type 0
+  Filling g = told (λ u. b) r at ≡ made (with_nodes (empty_board n) 0) g
 
-  module _ (at : ℕ) (e : r ≡ Ok at) where
-    pub read_trailing : (g : Got Board) → Into (nodes_into (empty_board n) 0 g) r b → at < length s → Err BytesAfter ≡ read_of (judged w s n g)
-    read_trailing (got qs a) i l = let z : a ≡ at = cc in rw (z, lt-ltb at (length s) l)
-    read_trailing (refused v) i l = absurd (err_ok (sym i ∙ e))
+  pub read-refused : (g : Got Board) → Filling g → (why : Refusal) → r ≡ Err why → Err why ≡ read_of (judged w s n g)
+  read-refused (got qs a) i why e = absurd (refused_got (rw e at i))
+  read-refused (refused v) i why e = ap Err (same-refusal (rw e at i))
+
+  module _ (e : r ≡ Ok tt) where
+    pub read_trailing : (g : Got Board) → Filling g → at < length s → Err BytesAfter ≡ read_of (judged w s n g)
+    read_trailing (got qs a) i l = let z = rw e at i in rw (← same_place z, lt-ltb at (length s) l)
+    read_trailing (refused v) i l = absurd (refused_got (sym (rw e at i)))
 
     module _ (small : n ≤ 32) (l : length s ≤ at) where
-      whole-judged : (g : Got Board) → Gives g (Bodies s n (2 + 2 * n)) → Into (nodes_into (empty_board n) 0 g) r b → (v : Result (Unit {0}) Refusal) → judged_of w b ≡ v → judged_as b v ≡ read_of (judged w s n g)
+      whole-judged : (g : Got Board) → Gives g (Bodies s n (2 + 2 * n)) → Filling g → (v : Result (Unit {0}) Refusal) → judged_of w b ≡ v → judged_as b v ≡ read_of (judged w s n g)
       unfolding tables_of
       whole-judged (got qs a) f i v q =
-          let z : a ≡ at = cc in
-          let m : length s ≤ a = omega arith in
-          rw (← q, i.1) (tables-judged w s n small qs a f m)
-      whole-judged (refused x) f i v q = absurd (err_ok (sym i ∙ e))
+          let z = rw e at i in
+          let m : length s ≤ a = omega (arith, same_place z) in
+          rw (← q, same-value z) (tables-judged w s n small qs a f m)
+      whole-judged (refused x) f i v q = absurd (refused_got (sym (rw e at i)))
 
-      pub read-judged : (g : Got Board) → Gives g (Bodies s n (2 + 2 * n)) → Into (nodes_into (empty_board n) 0 g) r b → judged_of w b ≡ Ok tt → Ok b ≡ read_of (judged w s n g)
+      pub read-judged : (g : Got Board) → Gives g (Bodies s n (2 + 2 * n)) → Filling g → judged_of w b ≡ Ok tt → Ok b ≡ read_of (judged w s n g)
       read-judged g f i q = whole-judged g f i (Ok tt) q
 
-      pub read-unjudged : (g : Got Board) → Gives g (Bodies s n (2 + 2 * n)) → Into (nodes_into (empty_board n) 0 g) r b → (why : Refusal) → judged_of w b ≡ Err why → Err why ≡ read_of (judged w s n g)
+      pub read-unjudged : (g : Got Board) → Gives g (Bodies s n (2 + 2 * n)) → Filling g → (why : Refusal) → judged_of w b ≡ Err why → Err why ≡ read_of (judged w s n g)
       read-unjudged g f i why q = whole-judged g f i (Err why) q

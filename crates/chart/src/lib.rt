@@ -2,14 +2,14 @@
 // a node's list is its records in table order.
 #![tactic(auto)]
 
-ghost use Rattle.std.specs.Prelude.{◌≡◌};
+ghost use Rattle.std.specs.Prelude.{◌≡◌, ◌+◌, ◌≤◌};
 ghost use Rattle.chart.specs.Chart.{under_two};
 ghost use Rattle.chart.specs.Read.{IsRead};
 ghost use Rattle.chart.specs.code.Filled.{empty_board};
 ghost use Rattle.chart.specs.code.Reads.{read_of, judged_of};
 
 use judge::outside_in;
-use reader::read_bodies;
+use reader::Reader;
 use refusals::Refusal;
 use tables::Table;
 
@@ -29,7 +29,7 @@ pub enum Setting {
 }
 
 // A source or a sink: its node, its target, its text's place in the chart, and how many characters that has.
-#[derive(Clone, Copy)]
+#[derive(Clone, Copy, Default)]
 pub struct Item {
     pub owner: u8,
     pub to: u8,
@@ -37,11 +37,11 @@ pub struct Item {
     pub len: u8,
 }
 
-// The sources or the sinks. (While a chart is being read, the count 65 is 'more than 64'.)
+// The sources or the sinks. (While a chart is being read the count goes on past the array, which holds the first 64.)
 pub type Items = Table<Item, 64>;
 
 // A line: its text's place in the chart, its node, and how many characters it has. (In this order it takes 4 bytes.)
-#[derive(Clone, Copy)]
+#[derive(Clone, Copy, Default)]
 pub struct Line {
     pub at: u16,
     pub owner: u8,
@@ -64,22 +64,11 @@ impl Board {
     fn empty(n: u8) -> Self
         ensures { result ≡ empty_board n }
     {
-        let none = Item {
-            owner: 0,
-            to: 0,
-            at: 0,
-            len: 0,
-        };
-        let line = Line {
-            at: 0,
-            owner: 0,
-            len: 0,
-        };
         Board {
             n,
-            sources: Table::empty(none),
-            lines: Table::empty(line),
-            sinks: Table::empty(none),
+            sources: Table::empty(Item::default()),
+            lines: Table::empty(Line::default()),
+            sinks: Table::empty(Item::default()),
         }
     }
 }
@@ -96,13 +85,10 @@ fn under_two(len: usize) -> Result<Board, Refusal>
 
 // Refusals 11 and 12.
 fn judged(board: &Board, setting: Setting) -> Result<(), Refusal>
+    requires { board.now.sources.count + board.now.sinks.count ≤ 65535 }
     ensures { result ≡ judged_of setting board.now }
 {
-    let sources = board.sources.count;
-    if sources > 64 {
-        return Err(Refusal::ManyEnds);
-    }
-    if board.sinks.count > 64 - sources {
+    if board.sources.count + board.sinks.count > 64 {
         return Err(Refusal::ManyEnds);
     }
     match outside_in(board, setting) {
@@ -112,6 +98,7 @@ fn judged(board: &Board, setting: Setting) -> Result<(), Refusal>
 }
 
 // A chart: its board, or the first refusal of 1 to 12.
+#[inline(never)]
 pub fn read(chart: &[u8], setting: Setting) -> Result<Board, Refusal>
     ensures { IsRead setting chart.now result }
 {
@@ -129,8 +116,12 @@ pub fn read(chart: &[u8], setting: Setting) -> Result<Board, Refusal>
         return Err(Refusal::CutContents);
     }
     let mut board = Board::empty(n);
-    let end = read_bodies(chart, &mut board)?;
-    if end < chart.len() {
+    let mut reader = Reader {
+        chart,
+        at: 2 + 2 * (n as usize),
+    };
+    reader.bodies(&mut board)?;
+    if reader.at < chart.len() {
         return Err(Refusal::BytesAfter);
     }
     judged(&board, setting)?;

@@ -13,12 +13,10 @@ ghost use Rattle.path.specs.Promises.{IsWritten};
 
 use chart::Setting;
 use grid::{BoxRecord, NO_OWNER, SheetRecord};
+use listings::LABELS;
 use path::PlacedLabel;
 use std::io;
-use std::io::{BufWriter, Read, Write};
-
-// How many bytes of standard input are read.
-const ROOM: u64 = 8192;
+use std::io::{BufWriter, Write};
 
 fn put<W: Write>(out: &mut W, text: &[u8]) -> io::Result<()> {
     out.write_all(text)
@@ -177,11 +175,11 @@ fn draw_label<W: Write>(
     Ok(true)
 }
 
-// The labels of box k: at most 68, since a chart has at most 64 sources and sinks, and a box 4 lines.
+// The labels of box k.
 fn draw_box_labels<W: Write>(out: &mut W, chart: &[u8], table: &[u8], k: usize) -> io::Result<()>
     requires { table.now ≡ stand_ins }
 {
-    for i in 0..68usize {
+    for i in 0..LABELS {
         if !draw_label(out, chart, table, k, i)? {
             break;
         }
@@ -217,14 +215,11 @@ fn draw<W: Write, E: Write>(out: &mut W, err: &mut E, chart: &[u8]) -> io::Resul
     }
 }
 
-// (A board with nothing fitted sends no byte; a read that fails before the first byte is no board. Where one fails later, what came before it is judged.)
 fn main(rt: HostRuntime) -> io::Result<()> {
-    let mut chart = Vec::with_capacity(rt.alloc(), ROOM as usize)?;
-    let read = rt.reader().take(ROOM).read_to_end(&mut chart);
-    if read.is_err() && chart.is_empty() {
+    let Some(chart) = lines::read_chart(rt.reader(), rt.alloc())? else {
         eprintln!(rt; "standard input can't be read")?;
         return Ok(());
-    }
+    };
     let mut out = BufWriter::new(rt.alloc(), io::writer(&rt))?;
     draw(&mut out, &mut rt.stderr(), chart.as_slice())?;
     out.flush()

@@ -6,14 +6,10 @@
 
 use chart::Setting;
 use grid::SheetRecord;
+use lines::{Program, ROOM};
+use listings::LABELS;
 use std::io;
-use std::io::{BufWriter, Read, Write};
-
-// How many bytes of standard input are read.
-const ROOM: u64 = 1048576;
-
-// A box has at most 68 labels: a chart has at most 64 sources and sinks, and a box 4 lines.
-const LABELS: usize = 68;
+use std::io::{BufWriter, Write};
 
 // The owners of the boxes, on one line.
 fn print_owners<W: Write>(out: &mut W, s: &SheetRecord) -> io::Result<()> {
@@ -76,27 +72,19 @@ fn print_chart<W: Write>(out: &mut W, chart: &[u8], setting: Setting) -> io::Res
     }
 }
 
-// The setting of a line's chart.
-fn setting_of(line: &[u8]) -> Setting {
-    if lines::is_default(line) {
-        return Setting::Default;
-    }
-    Setting::Strict
-}
+struct Full;
 
-fn print_hex<W: Write>(out: &mut W, line: &[u8]) -> io::Result<()> {
-    let mut chart = [0u8; 8192];
-    let n = lines::decode(lines::digits(line), &mut chart);
-    print_chart(out, &chart[..n], setting_of(line))?;
-    writeln!(out)
+impl Program for Full {
+    fn print<W: Write>(out: &mut W, line: &[u8]) -> io::Result<()> {
+        let mut chart = [0u8; 8192];
+        let n = lines::decode(lines::digits(line), &mut chart);
+        print_chart(out, &chart[..n], lines::setting_of(line))?;
+        writeln!(out)
+    }
 }
 
 fn main(rt: HostRuntime) -> io::Result<()> {
-    let mut text = Vec::new(rt.alloc());
-    rt.reader().take(ROOM).read_to_end(&mut text)?;
     let mut out = BufWriter::new(rt.alloc(), io::writer(&rt))?;
-    for line in lines::lines(&text) {
-        print_hex(&mut out, line)?;
-    }
+    lines::run::<Full, _, _, _>(rt.reader(), ROOM, &mut out, rt.alloc())?;
     out.flush()
 }

@@ -10,7 +10,7 @@ use lib.Dec.{eqb, leb}
 use lib.ListN.{length, get_or, replicate, get_or-replicate, length-map}
 use borrow.Author.Tests.{le-leb, lt-leb}
 use Rattle.laws.specs.Lists.{All, padded}
-use Rattle.laws.proofs.Lists.{all_made, get_d_tabulate, tabulate-same, map-tabulate, capped-room}
+use Rattle.laws.proofs.Lists.{all_made, get_d_tabulate, tabulate-same, map-tabulate}
 use Rattle.chart.specs.declared.Item.{Item as GivenItem}
 use Rattle.chart.specs.declared.Line.{Line as LineItem}
 use Rattle.chart.specs.declared.Board.{Board as BoardTables}
@@ -155,7 +155,7 @@ lines_are : (b : BoardTables) → Held b → (g : Graph) → Kept (board_of b) g
 lines_are b h g l =
     let ps : Board = board_of b in
     ap (λ (t : BoardTables). t.lines) (h.whole ∙ tables-held (length ps) ps)
-    ∙ rw (texts-are ps g l, capped-room 128 (length (lines_from 0 ps)) (given-few h.setting h.chart_bytes ps h.read))
+    ∙ rw (texts-are ps g l)
 
 -- tables in order answer for the graph that they hold
 answered : (t : Tables) → Roomy t → length t.names ≡ 48 → t.lines ≡ held_lines (graph_of t) → (r : Tables) → r ≡ ordered_of t →

@@ -2,12 +2,12 @@
 -- Assumes nothing.
 use Prim.Native.Nat.{ℕ, ◌+◌, ◌≤◌, ◌<◌}
 use native.Mathlib.Omega.{arith}
-use mathlib.Core.Path.{◌≡◌, refl, ap, ◌∙◌}
+use mathlib.Core.Path.{◌≡◌, refl, ap, sym, ◌∙◌}
 use mathlib.Core.Bool.{Bool}
 use mathlib.Core.List.{List}
 use lib.Dec.{ltb}
-use lib.ListN.{length, get_or, set}
-use Rattle.std.proofs.lemmas.List.{length-take}
+use lib.ListN.{length, get_or, set, take}
+use Rattle.std.proofs.lemmas.List.{length-take, take-take}
 use borrow.Author.Tests.{lt-ltb}
 use Rattle.tables.specs.Tables.{pushed_if}
 use Rattle.graph.specs.declared.Item.{Item}
@@ -59,14 +59,15 @@ module _ (t : Tables) (n p : ℕ) (hp : p < t.n) (f : Fits (join_sinks n (graph_
       sinks-room = omega (arith, (sink_room n (graph_of s) p i (edge_of (get_or xs₁ k no_item)) (rw same₁ out) fits₁).0, length-graph s.n (lines_of s) (items_of s.sources) (items_of s.sinks))
 
       -- and the tables with it
-      pub sinks-joined : length s.names ≡ 48 → length s.sources.items ≡ 88 → (room : Bool) (r : Items) → room ≡ ltb s.sources.count 88 → r ≡ pushed_if room s.sources (source_of p i s.n) →
+      pub sinks-joined : length s.names ≡ 48 → length s.sources.items ≡ 88 → (m : ℕ) → m ≡ length (owned p (take k s.sinks.items)) → (room : Bool) (r : Items) → room ≡ ltb s.sources.count 88 → r ≡ pushed_if room s.sources (source_of p m s.n) →
           Going (λ u. u.sinks) (join_sink n) (join_sinks n) t p (record { n = s.n + 1; cuts = s.cuts; names = set s.names s.n (Invalid e₁.to); lines = s.lines; sources = r; sinks = pointed_at s.sinks k s.n }) (i + 1) (k + 1)
-      sinks-joined names long room r b e =
+      sinks-joined names long m number room r b e =
           let q : Tables = record { n = s.n + 1; cuts = s.cuts; names = set s.names s.n (Invalid e₁.to); lines = s.lines; sources = r; sinks = pointed_at s.sinks k s.n } in
           let inside : k < s.sinks.count = omega (arith, sunk₁.inside, length-take s.sinks.count s.sinks.items) in
           let left : s.sources.count < 88 =
           omega (arith, (sink_room n (graph_of s) p i (edge_of (get_or xs₁ k no_item)) (rw same₁ out) fits₁).1, sources-held (lines_of s) (items_of s.sources) (items_of s.sinks) s.n l.standing.owned.source_owners, table-size s.sources long l.standing.owned.source_room) in
-          let more = push-items s.sources (source_of p i s.n) room r b e long left in
+          let counted : m ≡ i = number ∙ ap (λ (l : List Item). length (owned p l)) (sym (take-take k s.sinks.count s.sinks.items (omega arith))) ∙ sunk₁.number in
+          let more = push-items s.sources (source_of p i s.n) room r b (rw counted at e) long left in
           let put : items_of (pointed_at s.sinks k s.n) ≡ set xs₁ k (point_item s.n (get_or xs₁ k no_item)) = put-item s.sinks k (point_item s.n e₁) inside ∙ rw same₁ in
           going_own (λ u. u.sinks) (join_sink n) (join_sinks n) (λ g p i e es. refl) t p s i k l h o q
           (sink-joined s q l.standing n p i k (omega (arith, hp, l.more)) sinks-room names e₁.to refl refl refl sunk₁ (ap (λ (x : Item). x.to) same₁) out more.0 put more.1 refl left refl)

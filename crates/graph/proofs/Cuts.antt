@@ -26,6 +26,7 @@ use Rattle.graph.specs.Graph.{Edge, Node, Graph, Line, number, no_text, node_at,
 use Rattle.graph.specs.Cutting.{cut_graph, turned, pointed, second_node}
 use Rattle.graph.specs.code.Tables.{source_of, sink_of, owned, mark_of, edge_of, node_of, graph_from, Below, Aimed, Roomy, Sunk, CutTo, Linked, Texted, items_of, lines_at, lines_of, graph_of, point_item, turn_item}
 use Rattle.graph.specs.Outcome.{no_item}
+use Rattle.graph.proofs.AimLaws.{all_in}
 use Rattle.graph.proofs.Lists.{node-graph}
 use Rattle.graph.proofs.Gains.{owned-join, owned-new, owned-old}
 
@@ -266,19 +267,6 @@ pub owned_le : (c : ℕ) (xs : List Item) → length (owned c xs) ≤ length xs
 owned_le c [] = omega arith
 owned_le c (x ∷ xs) = keep_le (eqb x.owner c) (edge_of x) (owned c xs) (length xs) (owned_le c xs)
 
--- f's value in place k of a list that f has gone through up to k
-pub map-step : {A : Type 0} (f : A → A) (xs : List A) (k : ℕ) (d : A) → k < length xs →
-    set (map f (take k xs) ++ drop k xs) k (f (get_or (map f (take k xs) ++ drop k xs) k d)) ≡ map f (take (suc k) xs) ++ drop (suc k) xs
-map-step f [] k d h = absurd (not-suc-le-zero h)
-map-step f (x ∷ xs) zero d h = refl
-map-step f (x ∷ xs) (suc k) d h = cc (map-step f xs k d (le_of_suc-le-suc h))
-
--- each record leads to one of the first n nodes
-pub aimed-at : (n : ℕ) (xs : List Item) (k : ℕ) → Aimed n xs → k < length xs → (get_or xs k no_item).to < n
-aimed-at n [] k a h = absurd (not-suc-le-zero h)
-aimed-at n (x ∷ xs) zero a h = a.0
-aimed-at n (x ∷ xs) (suc k) a h = aimed-at n xs k a.1 (le_of_suc-le-suc h)
-
 pub aimed_more : (n m : ℕ) → n ≤ m → (xs : List Item) → Aimed n xs → Aimed m xs
 aimed_more n m l [] a = tt
 aimed_more n m l (x ∷ xs) a = (omega (arith, a.0), aimed_more n m l xs a.1)
@@ -356,7 +344,7 @@ module _ (t r : Tables) (b : Roomy t) (c s k : ℕ) (f : Sunk (items_of t.sinks)
   ys₂ = set (items_of t.sinks) k (point_item t.n yk)
 
   pub to_in : yk.to < t.n
-  to_in = aimed-at t.n (items_of t.sinks) k b.linked.sink_aims f.inside
+  to_in = all_in (λ (x : Item). x.to < t.n) (items_of t.sinks) k no_item f.inside b.linked.sink_aims
 
   pub cut-linked : Linked r
   cut-linked =
@@ -404,7 +392,7 @@ module _ (t r : Tables) (b : Roomy t) (c s k : ℕ) (f : Sunk (items_of t.sinks)
 pub cut-to : (t : Tables) (b : Roomy t) (c s k : ℕ) (f : Sunk (items_of t.sinks) c s k) (hc : c < t.n) (room : t.n + 2 ≤ 48) (long : length t.names ≡ 48)
     (q : Item) → get_or (items_of t.sinks) k no_item ≡ q → (x z : Items) →
     (items_of x ≡ map (turn_item q.to c (t.n + 1)) (items_of t.sources) ++ one (source_of c s t.n)) × (x.count ≤ 88) →
-    (items_of z ≡ set (items_of t.sinks) k (point_item t.n (get_or (items_of t.sinks) k no_item)) ++ one (sink_of q.to (t.n + 1))) × (z.count ≤ 88) →
+    (items_of z ≡ set (items_of t.sinks) k (point_item t.n q) ++ one (sink_of q.to (t.n + 1))) × (z.count ≤ 88) →
     CutTo t c s k (record { n = t.n + 2; cuts = t.cuts + 1; names = set (set t.names t.n (Number q.to)) (t.n + 1) (Number q.to); lines = t.lines; sources = x; sinks = z })
 cut-to t b c s k f hc room long q e x z hx hz =
     let r : Tables = record { n = t.n + 2; cuts = t.cuts + 1; names = set (set t.names t.n (Number q.to)) (t.n + 1) (Number q.to); lines = t.lines; sources = x; sinks = z } in
@@ -412,7 +400,7 @@ cut-to t b c s k f hc room long q e x z hx hz =
     let ex : items_of x ≡ map (turn_item (get_or (items_of t.sinks) k no_item).to c (suc t.n)) (items_of t.sources) ++ one (new_source t.n c s) =
     rw (e, ← add-one t.n) hx.0 in
     let ey : items_of z ≡ set (items_of t.sinks) k (point_item t.n (get_or (items_of t.sinks) k no_item)) ++ one (new_sink t.n (get_or (items_of t.sinks) k no_item).to) =
-    hz.0 ∙ rw (e, add-one t.n) in
+    rw (e, ← add-one t.n) hz.0 in
     record {
       sound = cut-sound t r b c s k f hc room long refl refl em ex ey hx.1 hz.1;
       named = simp length-set long;

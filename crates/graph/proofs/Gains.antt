@@ -15,7 +15,7 @@ use Rattle.laws.proofs.Lists.{tabulate-set, owned-append}
 use Rattle.graph.specs.declared.Item.{Item}
 use Rattle.graph.specs.Graph.{Node, Line, has_marked, no_text}
 use Rattle.graph.specs.Completion.{gain_source}
-use Rattle.graph.specs.code.Tables.{owned, edge_of, source_of, gained, node_of, graph_from}
+use Rattle.graph.specs.code.Tables.{owned, edge_of, source_of, node_of, graph_from}
 use Rattle.graph.proofs.Lists.{node-graph}
 
 pub owned-join : (p : ℕ) (xs ys : List Item) → owned p (xs ++ ys) ≡ owned p xs ++ owned p ys
@@ -26,6 +26,10 @@ owned-new p xs r e = owned-join p xs (one r) ∙ rw (eq-eqb r.owner p e)
 
 pub owned-old : (p : ℕ) (xs : List Item) (r : Item) → (r.owner ≡ p → ⊥) → owned p (xs ++ one r) ≡ owned p xs
 owned-old p xs r e = owned-join p xs (one r) ∙ rw (ne_eqb r.owner p e, append-nil (owned p xs))
+
+-- the records of the sources, where the graph tells whether sink i of p has its source at q
+abbrev pub gained_at : List Item → ℕ → ℕ → ℕ → List Item
+gained_at xs p i q = cond (has_marked (owned q xs) p i) xs (xs ++ one (source_of p i q))
 
 -- the graph gains the source that the table gains
 module _ (n : ℕ) (ls : List (List Line)) (xs ys : List Item) (p i q : ℕ) (h : q < n) where
@@ -46,5 +50,5 @@ module _ (n : ℕ) (ls : List (List Line)) (xs ys : List Item) (p i q : ℕ) (h 
   either true = refl
   either false = pushed
 
-  pub gain-graph : gain_source (graph_from n ls xs ys) p i q ≡ graph_from n ls (gained xs p i q) ys
+  pub gain-graph : gain_source (graph_from n ls xs ys) p i q ≡ graph_from n ls (gained_at xs p i q) ys
   gain-graph = rw (node-graph n ls xs ys q h) (either (has_marked (owned q xs) p i))

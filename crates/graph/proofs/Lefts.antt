@@ -16,16 +16,15 @@ use Rattle.graph.specs.Items.{Items}
 use Rattle.graph.specs.declared.Tables.{Tables}
 use Rattle.graph.specs.Graph.{Edge, Graph, has_marked, leads_to}
 use Rattle.graph.specs.Completion.{gain_source, complete_sinks}
-use Rattle.graph.specs.code.Tables.{owned, source_of, gained, gained_in, graph_from, graph_of, lines_of, items_of, Below, Sinked, Paired, bares, Fit, SinksDone}
+use Rattle.graph.specs.code.Tables.{owned, source_of, held, gained_in, graph_from, graph_of, lines_of, items_of, Below, Sinked, Paired, bares, Fit, SinksDone}
 use Rattle.graph.specs.Outcome.{no_item}
-use Rattle.graph.proofs.Lists.{node-graph, owned-end, owned-other, owned-own, table_le}
-use Rattle.graph.proofs.Gains.{gain-graph}
+use Rattle.graph.proofs.Lists.{any-marked, node-graph, owned-end, owned-other, owned-own}
+use Rattle.graph.proofs.Gains.{gained_at, gain-graph}
 use Rattle.graph.proofs.Cuts.{length-graph, below_one, counted-own, counted-other}
 use Rattle.graph.proofs.Pairs.{leads-at, source_sinked, source_paired, source_bares}
 
 -- Before record k, with i sinks of p gone through and the table s of sources: what is left to do gives the whole.
 pub record Left (g : ℕ) (t : Tables) (p : ℕ) (s : Items) (i k : ℕ) : Type 0 where
-  pub numbered : i ≤ k
   pub number : length (owned p (take k (items_of t.sinks))) ≡ i
   pub room : s.count + length (owned p (drop k (take g (items_of t.sinks)))) ≤ t.sources.count + length (owned p (take g (items_of t.sinks)))
   pub owners : Below t.n (items_of s)
@@ -103,14 +102,9 @@ module _ (g : ℕ) (t : Tables) (b : Fit g t) (p : ℕ) (hp : p < t.n) (s : Item
     abbrev e : Item
     e = get_or ys k no_item
 
-    -- the sinks gone through are less than 88
-    pub left_few : i < 88
-    left_few = omega (arith, l.numbered, table_le t.sinks, b.linked.sink_room)
-
     pub left_other : (e.owner ≡ p → ⊥) → Left g t p s i (k + 1)
     left_other o =
         record {
-          numbered = omega (arith, l.numbered);
           number = counted-other ys p k h o ∙ l.number;
           room = rw (add-one k) (omega (arith, l.room, rest-other g p k ys b.given o (ltb k g) refl));
           owners = l.owners;
@@ -138,13 +132,12 @@ module _ (g : ℕ) (t : Tables) (b : Fit g t) (p : ℕ) (hp : p < t.n) (s : Item
       test_now : (c : Bool) → ltb e.to t.n ≡ c → ltb e.to (length now) ≡ c
       test_now c z = ap (ltb e.to) (length-graph t.n (lines_of t) (items_of s) ys) ∙ z
 
-      left_by : (r : Items) → (d : Bool) → ltb e.to t.n ≡ d → items_of r ≡ cond d (gained (items_of s) p i e.to) (items_of s) → r.count ≤ s.count + 1 →
+      left_by : (r : Items) → (d : Bool) → ltb e.to t.n ≡ d → items_of r ≡ cond d (gained_at (items_of s) p i e.to) (items_of s) → r.count ≤ s.count + 1 →
           (has_marked (owned e.to (items_of s)) p i ≡ true → r.count ≡ s.count) → Left g t p r (i + 1) (k + 1)
       left_by r true z f c c' =
           let to_in : e.to < t.n = ltb-true e.to t.n z in
           let m : Bool = has_marked (owned e.to (items_of s)) p i in
           record {
-            numbered = omega (arith, l.numbered);
             number = counted-own ys p k h o ∙ ap (λ (n : ℕ). n + 1) l.number;
             room = rw (add-one k) (omega (arith, l.room, rest_more g p k ys b.given s.count r.count c (λ a. c' (hit a)) o (ltb k g) refl));
             owners = rw f (below-cond t.n (items_of s) (source_of p i e.to) to_in l.owners m);
@@ -157,7 +150,6 @@ module _ (g : ℕ) (t : Tables) (b : Fit g t) (p : ℕ) (hp : p < t.n) (s : Item
           }
       left_by r false z f c c' =
           record {
-            numbered = omega (arith, l.numbered);
             number = counted-own ys p k h o ∙ ap (λ (n : ℕ). n + 1) l.number;
             room = rw (add-one k) (omega (arith, l.room, rest_more g p k ys b.given s.count r.count c (λ a. c' (hit a)) o (ltb k g) refl));
             owners = rw f l.owners;
@@ -167,5 +159,5 @@ module _ (g : ℕ) (t : Tables) (b : Fit g t) (p : ℕ) (hp : p < t.n) (s : Item
             rest = rw (add-one k, add-one i, f) (rw (test_now false z) at rest-now);
           }
 
-      pub left-own : (r : Items) → items_of r ≡ gained_in t.n (items_of s) p i e.to → r.count ≤ s.count + 1 → (has_marked (owned e.to (items_of s)) p i ≡ true → r.count ≡ s.count) → Left g t p r (i + 1) (k + 1)
-      left-own r f c c' = left_by r (ltb e.to t.n) refl f c c'
+      pub left-own : (r : Items) → items_of r ≡ gained_in t.n (items_of s) (source_of p i e.to) → r.count ≤ s.count + 1 → (held (source_of p i e.to) (items_of s) ≡ true → r.count ≡ s.count) → Left g t p r (i + 1) (k + 1)
+      left-own r f c c' = left_by r (ltb e.to t.n) refl (rw (any-marked e.to p i (items_of s)) at f) c (rw (any-marked e.to p i (items_of s)) at c')

@@ -2,13 +2,16 @@
 pub mod Lists
 pub mod Steps
 pub mod Gains
+pub mod Finds
 pub mod Resumes
 pub mod Cuts
 pub mod Advances
 pub mod Roots
 pub mod Sinks
 pub mod Pairs
+pub mod Paths
 pub mod Lefts
+pub mod Turns
 pub mod Rounds
 pub mod Keeps
 pub mod LineLaws

@@ -201,9 +201,6 @@ module _ (g : Graph) (c s : ℕ) (hc : c < length g) (hs : s < degree g c) (hq :
   old-node : (r : ℕ) → r < n₀ → node_at g₃ r ≡ node_at g₂ r
   old-node r l = get_or-append g₂ _ bare r (omega (arith, size₂))
 
-  first-node : node_at g₃ n₀ ≡ first_node c s q₀
-  first-node = let z : n₀ ≡ length g₂ + 0 = omega (arith, size₂) in ap (λ (k : ℕ). node_at g₃ k) z ∙ get_or-append-add g₂ (first_node c s q₀ ∷ second_node q₀ ∷ []) 0 bare
-
   second-node : node_at g₃ (suc n₀) ≡ second_node q₀
   second-node = let z : suc n₀ ≡ length g₂ + 1 = omega (arith, size₂) in ap (λ (k : ℕ). node_at g₃ k) z ∙ get_or-append-add g₂ (first_node c s q₀ ∷ second_node q₀ ∷ []) 1 bare
 

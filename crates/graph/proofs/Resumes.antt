@@ -7,7 +7,7 @@ use mathlib.Core.Path.{◌≡◌, refl, ap, sym, ◌∙◌}
 use mathlib.Core.Bool.{Bool, true, false, cond}
 use mathlib.Core.List.{List, [], ◌∷◌, ◌++◌}
 use lib.ListN.{length, get_or, set, length-set, length-append, get_or-append}
-use Rattle.graph.specs.declared.cutting.Look.{Look}
+use Rattle.graph.specs.declared.reach.Frame.{Frame}
 use Rattle.graph.specs.declared.reach.Seen.{Seen}
 use Rattle.graph.specs.declared.reach.Seen.TheVariants.{OnPath, Explored}
 use Rattle.graph.specs.Graph.{Edge, Node, Graph, no_edge, bare, node_at, degree}
@@ -74,47 +74,47 @@ pub from-grown : (d : ℕ) → Grows (explore_from d)
 from-grown zero w c = grown_refl w.graph
 from-grown (suc d) w c = sinks-grown (λ u q. explore_from d u q) (from-grown d) (seeing w c OnPath) c 0 (degree w.graph c)
 
-pub resume-grown : (d : ℕ) (w : Walk) (fs : List Look) → Grown w.graph (resume d w fs).graph
+pub resume-grown : (d : ℕ) (w : Walk) (fs : List Frame) → Grown w.graph (resume d w fs).graph
 unfolding resume
 resume-grown d w [] = grown_refl w.graph
 resume-grown d w (f ∷ fs) =
-    grown_trans (sinks-grown (λ u q. explore_from d u q) (from-grown d) w f.node f.sink (rest w f))
-    (resume-grown (suc d) (seeing (explore_sinks (λ u q. explore_from d u q) w f.node f.sink (rest w f)) f.node Explored) fs)
+    grown_trans (sinks-grown (λ u q. explore_from d u q) (from-grown d) w f.node f.next (rest w f))
+    (resume-grown (suc d) (seeing (explore_sinks (λ u q. explore_from d u q) w f.node f.next (rest w f)) f.node Explored) fs)
 
 -- the last frame has no sink left
-pub resume-leave : (d : ℕ) (w : Walk) (f : Look) (fs : List Look) → degree w.graph f.node ≤ f.sink → resume d w (f ∷ fs) ≡ resume (suc d) (seeing w f.node Explored) fs
+pub resume-leave : (d : ℕ) (w : Walk) (f : Frame) (fs : List Frame) → degree w.graph f.node ≤ f.next → resume d w (f ∷ fs) ≡ resume (suc d) (seeing w f.node Explored) fs
 unfolding resume
 resume-leave d w f fs h = let e : rest w f ≡ 0 = omega arith in rw e
 
 -- the walk from a node that was unseen begins
-pub resume-enter : (d : ℕ) (w : Walk) (q : ℕ) (fs : List Look) → resume (suc d) (explore_from (suc d) w q) fs ≡ resume d (seeing w q OnPath) (record { node = q; sink = 0 } ∷ fs)
+pub resume-enter : (d : ℕ) (w : Walk) (q : ℕ) (fs : List Frame) → resume (suc d) (explore_from (suc d) w q) fs ≡ resume d (seeing w q OnPath) (record { node = q; next = 0 } ∷ fs)
 unfolding resume
 resume-enter d w q fs =
     ap (λ (k : ℕ). resume (suc d) (seeing (explore_sinks (explore_from d) (seeing w q OnPath) q 0 k) q Explored) fs) (sym (sub-zero (degree w.graph q)))
 
 -- the last frame looks at its next sink
-module _ (d : ℕ) (w : Walk) (f : Look) (fs : List Look) (h : f.sink < degree w.graph f.node) (l : f.node < length w.graph) where
-  abbrev on : Look
-  on = record { node = f.node; sink = suc f.sink }
+module _ (d : ℕ) (w : Walk) (f : Frame) (fs : List Frame) (h : f.next < degree w.graph f.node) (l : f.node < length w.graph) where
+  abbrev on : Frame
+  on = record { node = f.node; next = suc f.next }
 
   abbrev e : Edge
-  e = get_or (node_at w.graph f.node).sinks f.sink no_edge
+  e = get_or (node_at w.graph f.node).sinks f.next no_edge
 
   abbrev seen : Seen
   seen = seen_at w.seen e.to
 
-  resume-look : (u : Walk) → look (explore_from d) w f.node f.sink ≡ u → Grown w.graph u.graph → resume d w (f ∷ fs) ≡ resume d u (on ∷ fs)
+  resume-look : (u : Walk) → look (explore_from d) w f.node f.next ≡ u → Grown w.graph u.graph → resume d w (f ∷ fs) ≡ resume d u (on ∷ fs)
   unfolding resume
   resume-look u is g =
       let k : rest w f ≡ suc (rest u on) = omega (arith, g.same f.node l) in
-      ap (λ (m : ℕ). resume (suc d) (seeing (explore_sinks (explore_from d) w f.node f.sink m) f.node Explored) fs) k
-      ∙ ap (λ (v : Walk). resume (suc d) (seeing (explore_sinks (explore_from d) v f.node (suc f.sink) (rest u on)) f.node Explored) fs) is
+      ap (λ (m : ℕ). resume (suc d) (seeing (explore_sinks (explore_from d) w f.node f.next m) f.node Explored) fs) k
+      ∙ ap (λ (v : Walk). resume (suc d) (seeing (explore_sinks (explore_from d) v f.node (suc f.next) (rest u on)) f.node Explored) fs) is
 
   pub resume-pass : unseen? seen ≡ false → on_path? seen ≡ false → resume d w (f ∷ fs) ≡ resume d w (on ∷ fs)
   resume-pass a b = resume-look w (rw (a, b)) (grown_refl w.graph)
 
-  pub resume-cut : on_path? seen ≡ true → resume d w (f ∷ fs) ≡ resume d (cut w f.node f.sink e) (on ∷ fs)
-  resume-cut b = resume-look (cut w f.node f.sink e) (rw (seen-on_path seen b, b)) (cut-grown w f.node f.sink e)
+  pub resume-cut : on_path? seen ≡ true → resume d w (f ∷ fs) ≡ resume d (cut w f.node f.next e) (on ∷ fs)
+  resume-cut b = resume-look (cut w f.node f.next e) (rw (seen-on_path seen b, b)) (cut-grown w f.node f.next e)
 
   pub resume-go : unseen? seen ≡ true → resume d w (f ∷ fs) ≡ resume d (explore_from d w e.to) (on ∷ fs)
   resume-go a = resume-look (explore_from d w e.to) (rw a) (from-grown d w e.to)

@@ -13,13 +13,12 @@ use Rattle.laws.specs.Each.{each}
 use Rattle.laws.proofs.Each.{next}
 use Rattle.laws.proofs.Lists.{take-replicate}
 use Rattle.graph.specs.declared.Tables.{Tables}
-use Rattle.graph.specs.declared.cutting.Look.{Look}
 use Rattle.graph.specs.declared.reach.Seen.{Seen}
 use Rattle.graph.specs.declared.reach.Seen.TheVariants.{Unseen, Explored}
 use Rattle.graph.specs.Graph.{Node, Graph, none?}
 use Rattle.graph.specs.Cutting.{Walk, mark_from, mark_root, reached, seen_at, explore_from, start, beginning, cutting, unseen?}
 use Rattle.graph.specs.code.Tables.{owned, items_of, lines_of, graph_of, Roomy}
-use Rattle.graph.specs.code.Explore.{Explore, walk_of, Ready, Walked}
+use Rattle.graph.specs.code.Explore.{Explore, between, walk_of, Ready, Walked}
 use Rattle.graph.proofs.Lists.{node-graph, unseens_le}
 use Rattle.graph.proofs.Cuts.{length-graph}
 use Rattle.graph.proofs.Resumes.{Grown, grown_refl, grown_trans, from-grown}
@@ -68,7 +67,6 @@ starts-grown d w p (suc k) = let e : suc k + p ≡ suc (k + p) = omega arith in 
 -- Before start p, with n nodes given: the walk is that after the starts before p.
 pub record Started (t : Tables) (s : Explore) (p : ℕ) : Type 0 where
   pub ready : Ready s
-  pub empty : s.depth ≡ 0
   pub given : s.given ≡ t.n
   pub lines : s.tables.lines ≡ t.lines
   pub within : p ≤ t.n
@@ -92,7 +90,6 @@ module _ (t : Tables) (s : Explore) (p : ℕ) (l : Started t s p) (h : p < t.n) 
   start-pass e =
       record {
         ready = l.ready;
-        empty = l.empty;
         given = l.given;
         lines = l.lines;
         within = omega arith;
@@ -106,7 +103,6 @@ module _ (t : Tables) (s : Explore) (p : ℕ) (l : Started t s p) (h : p < t.n) 
   start-walk e y k =
       record {
         ready = k.ready;
-        empty = k.done;
         given = k.given ∙ l.given;
         lines = k.lines ∙ l.lines;
         within = omega arith;
@@ -120,14 +116,13 @@ module _ (t : Tables) (s : Explore) (p : ℕ) (l : Started t s p) (h : p < t.n) 
       let at : 48 < length (before t.n (beginning (graph_of t)) (p + 1)).graph = rw (walked e) (rw l.given at o) in
       rw (← far) (omega (arith, at, (starts-grown t.n (beginning (graph_of t)) (p + 1) (t.n - (p + 1))).longer))
 
-pub start_first : (t : Tables) → Roomy t → length t.names ≡ 48 → t.cuts ≡ 0 → (sn : List Seen) → length sn ≡ 48 → take t.n sn ≡ reached (graph_of t) → (fs : List Look) → length fs ≡ 48 →
-    Started t (record { given = t.n; tables = t; seen = sn; frames = fs; depth = 0 }) 0
+pub start_first : (t : Tables) → Roomy t → length t.names ≡ 48 → t.cuts ≡ 0 → (sn : List Seen) → length sn ≡ 48 → take t.n sn ≡ reached (graph_of t) →
+    Started t (between t.n t sn) 0
 unfolding each
-start_first t b named cu sn all e fs most =
+start_first t b named cu sn all e =
     let k : length (take t.n sn) ≡ t.n = length-take-le t.n sn (omega (arith, b.linked.nodes)) in
     record {
-      ready = record { all = all; most = most; named = named; sound = b; count = omega arith; room = omega (arith, unseens_le (take t.n sn)); within = tt };
-      empty = refl;
+      ready = record { all = all; named = named; sound = b; count = omega arith; room = omega (arith, unseens_le (take t.n sn)); within = tt };
       given = refl;
       lines = refl;
       within = omega arith;

@@ -1,42 +1,31 @@
 // Edge completion.
 ghost use Rattle.std.specs.Prelude.{◌≡◌, true, ◌+◌, ◌<◌, ◌≤◌, length, take};
-ghost use Rattle.graph.specs.Graph.{has_marked, leads_to};
-ghost use Rattle.graph.specs.code.Tables.{items_of, owned, gained_in, Owned, SinkGained, Fit, SinksDone, SourcesDone, Charted, Completed};
+ghost use Rattle.graph.specs.Graph.{leads_to};
+ghost use Rattle.graph.specs.code.Tables.{items_of, owned, held, gained_in, Owned, SinkGained, Fit, SinksDone, SourcesDone, Charted, Completed};
 
-use crate::records::NO_ITEM;
+use crate::records::{sink_of, source_of};
 use crate::{Item, Items, Tables};
 
-// A source of q has target p and mark i.
-fn has_marked(items: &[Item], q: u8, p: u8, i: u8) -> bool
-    requires { i < 88 }
-    ensures { result ≡ has_marked (owned q items.now) p i }
+// Whether a record has the owner, the target and the mark of x.
+fn has_marked(items: &[Item], x: Item) -> bool
+    ensures { result ≡ held x items.now }
 {
-    let mark = i + 1;
     items
         .iter()
-        .any(|e| e.owner == q && e.to == p && e.mark == mark)
+        .any(|e| e.owner == x.owner && e.to == x.to && e.mark == x.mark)
 }
 
-// Where sink i of p leads to q, q has its source. A sink that leads to none of the n nodes is passed over.
-fn gain_source(sources: &mut Items, n: usize, p: u8, i: u8, q: u8)
-    requires room { sources.old.count < 88 }
-    requires i_bound { i < 88 }
-    ensures items { items_of sources.new ≡ gained_in n (items_of sources.old) p i q }
+// The source's node gains it, unless it has it already, or is none of the n nodes.
+fn gain_source(sources: &mut Items, n: usize, source: Item)
+    requires { sources.old.count < 88 }
+    ensures items { items_of sources.new ≡ gained_in n (items_of sources.old) source }
     ensures count { sources.new.count ≤ sources.old.count + 1 }
-    ensures kept { has_marked (owned q (items_of sources.old)) p i ≡ true → sources.new.count ≡ sources.old.count }
+    ensures kept { held source (items_of sources.old) ≡ true → sources.new.count ≡ sources.old.count }
 {
-    if n <= q as usize {
+    if n <= source.owner as usize || has_marked(sources.as_slice(), source) {
         return;
     }
-    if has_marked(sources.as_slice(), q, p, i) {
-        return;
-    }
-    sources.push(Item {
-        owner: q,
-        to: p,
-        mark: i + 1,
-        ..NO_ITEM
-    });
+    sources.push(source);
 }
 
 // The sinks of p: each end that lacks its source gains it. (The given sinks are counted for the promise alone.)
@@ -46,12 +35,9 @@ fn complete_sinks(t: &mut Tables, p: u8, given: usize)
     requires sinks_bound { t.old.sources.count + length (owned p (take given (items_of t.old.sinks))) ≤ 64 }
     ensures { SinksDone given t.old p t.new }
 {
-    let mut i: u8 = 0;
-    for e in t.sinks.as_slice() {
-        if e.owner == p {
-            gain_source(&mut t.sources, t.n, p, i, e.to);
-            i += 1;
-        }
+    let own = t.sinks.as_slice().iter().filter(|e| e.owner == p);
+    for (i, e) in own.enumerate() {
+        gain_source(&mut t.sources, t.n, source_of(p, i as u8, e.to));
     }
 }
 
@@ -63,7 +49,7 @@ fn leads_to(items: &[Item], q: u8, p: u8) -> bool
 }
 
 // How many records q owns.
-fn count_owned(items: &[Item], q: u8) -> usize
+pub fn count_owned(items: &[Item], q: u8) -> usize
     ensures { result ≡ length (owned q items.now) }
 {
     items.iter().filter(|e| e.owner == q).count()
@@ -86,11 +72,7 @@ fn gain_sink(t: &mut Tables, k: usize)
     }
     let number = count_owned(t.sinks.as_slice(), e.to) as u8;
     t.sources.items[k].mark = number + 1;
-    t.sinks.push(Item {
-        owner: e.to,
-        to: e.owner,
-        ..NO_ITEM
-    });
+    t.sinks.push(sink_of(e.owner, e.to));
 }
 
 // The sources of p: each end that lacks its sink gains it.

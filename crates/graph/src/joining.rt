@@ -4,7 +4,8 @@ ghost use Rattle.graph.specs.Graph.{node_at};
 ghost use Rattle.graph.specs.Joining.{leads, join_sinks, join_sources, joined};
 ghost use Rattle.graph.specs.code.Tables.{graph_of, far, Standing, Fits, EndsJoined, Joined};
 
-use crate::records::{sink_of, source_of};
+use crate::completion::count_owned;
+use crate::records::{add_box, sink_of, source_of};
 use crate::{Item, Name, Tables};
 
 // How many records lead to none of the first n nodes.
@@ -22,31 +23,22 @@ pub fn count_leads(t: &Tables) -> usize
     count_far(t.sinks.as_slice(), t.n) + count_far(t.sources.as_slice(), t.n)
 }
 
-// The sinks of p: each that leads to none of the first n nodes gets a box, which has its source. (By place, since a turn writes both tables; a sink's
-// number goes with its source, and a source has none: so the next function is no twin.)
+// The sinks of p: each that leads to none of the first n nodes gets a box, which has its source. (By place, since a turn writes both tables.)
 fn join_sinks(t: &mut Tables, p: u8, n: usize)
     requires standing { Standing t.old }
     requires p_lt_n { p < t.old.n }
     requires fits { Fits (join_sinks n (graph_of t.old) p 0 (node_at (graph_of t.old) p).sinks) }
     ensures { EndsJoined (join_sinks n) (λ x. x.sinks) t.old p t.new }
 {
-    let mut i: u8 = 0;
     for k in 0..t.sinks.as_slice().len() {
         let e = t.sinks.items[k];
-        if e.owner != p {
+        if e.owner != p || (e.to as usize) < n {
             continue;
         }
-        let j = i;
-        i += 1;
-        if (e.to as usize) < n {
-            continue;
-        }
-        let m = t.n;
-        let a = m as u8;
-        t.sources.push(source_of(p, j, a));
+        let i = count_owned(&t.sinks.items[..k], p) as u8;
+        let a = add_box(t, Name::Invalid(e.to));
+        t.sources.push(source_of(p, i, a));
         t.sinks.items[k].to = a;
-        t.names[m] = Name::Invalid(e.to);
-        t.n = m + 1;
     }
 }
 
@@ -62,12 +54,9 @@ fn join_sources(t: &mut Tables, p: u8, n: usize)
         if e.owner != p || (e.to as usize) < n {
             continue;
         }
-        let m = t.n;
-        let a = m as u8;
+        let a = add_box(t, Name::Invalid(e.to));
         t.sinks.push(sink_of(p, a));
         t.sources.items[k].to = a;
-        t.names[m] = Name::Invalid(e.to);
-        t.n = m + 1;
     }
 }
 

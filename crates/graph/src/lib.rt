@@ -23,7 +23,7 @@ mod records;
 
 // A source or a sink: its text's place in the chart, its node, the node at the other end, its mark plus 1 (0 for none: an Option would make 8 bytes of 6), and how
 // many characters its text has. (In this order it takes 6 bytes.)
-#[derive(Clone, Copy)]
+#[derive(Clone, Copy, Default)]
 pub struct Item {
     pub at: u16,
     pub owner: u8,
@@ -58,6 +58,7 @@ pub struct Tables {
 }
 
 // An accepted chart's board: completed, joined, and cut if asked, or refusal 13.
+#[inline(never)]
 fn drawn(board: &Board, cut: bool) -> Result<Tables, Refusal>
     requires { Held board.now }
     ensures { IsAnswer (stage cut (uncut (board_of board.now))) result }
@@ -74,7 +75,7 @@ fn drawn(board: &Board, cut: bool) -> Result<Tables, Refusal>
     Ok(whole)
 }
 
-// The chart read, completed, joined, and cut if asked. (It alone calls these stages, so that they share one frame: a second caller of `read` would add its frame to the sheet's.)
+// The chart read, completed, joined, and cut if asked. (Each stage has a frame of its own, which is gone before the next is called, for the unit's stack.)
 fn staged(chart: &[u8], setting: Setting, cut: bool) -> Result<Tables, Refusal>
     ensures { IsAnswer (staged_of cut (chart_of setting chart.now)) result }
 {
@@ -83,6 +84,7 @@ fn staged(chart: &[u8], setting: Setting, cut: bool) -> Result<Tables, Refusal>
 }
 
 // The graph of a chart in a setting, completed, joined and cut, or the first refusal of 1 to 13.
+#[inline(never)]
 pub fn graph(chart: &[u8], setting: Setting) -> Result<Tables, Refusal>
     ensures { IsGraph setting chart.now result }
 {
@@ -97,7 +99,7 @@ pub fn completed(chart: &[u8]) -> Result<Tables, Refusal>
 }
 
 // Whose an end is, and where it leads.
-#[derive(Clone, Copy)]
+#[derive(Clone, Copy, Default)]
 pub struct Lead {
     pub owner: u8,
     pub to: u8,
@@ -110,7 +112,7 @@ pub type Ends = Table<Lead, 88>;
 pub fn ends_of(t: Items) -> Ends
     ensures { result ≡ ends_in t }
 {
-    let mut items = [Lead { owner: 0, to: 0 }; 88];
+    let mut items = [Lead::default(); 88];
     for (k, x) in t.items.iter().enumerate() {
         items[k] = Lead {
             owner: x.owner,

@@ -5,6 +5,7 @@ ghost use Rattle.graph.specs.Graph.{none?};
 ghost use Rattle.graph.specs.Cutting.{mark_from, reached};
 
 use crate::{Item, NODES, Tables};
+use tables::Table;
 
 // How a node stands in the walks.
 #[derive(Clone, Copy, PartialEq, Eq)]
@@ -15,16 +16,16 @@ pub enum Seen {
     Explored,
 }
 
-// A node on the path, and the place in the table of sinks where it looks next. (The path is an array and a depth: a table has no way to take its last
-// one away, and calls would have no bound.)
-#[derive(Clone, Copy)]
+// A node on the path, and the number of what it looks at next: in this module a place in the table of sinks, in cutting.rt the number of a sink of the
+// node, which a cut writes down.
+#[derive(Clone, Copy, Default)]
 pub struct Frame {
     pub node: u8,
-    pub at: u8,
+    pub next: u8,
 }
 
-// The nodes that a walk from p reaches are marked. The path is the first depth frames.
-// One step: the last node of the path looks at one record of the table, or leaves the path at the table's end.
+// The nodes that a walk from p reaches are marked. One step: the last node of the path looks at one record of the table, or leaves the path at the table's
+// end. (Calls in place of a path would have no bound.)
 fn mark_from(t: &Tables, seen: &mut [Seen; NODES], p: u8)
     requires linked { Linked t.now }
     requires p_lt_n { p < t.now.n }
@@ -35,21 +36,22 @@ fn mark_from(t: &Tables, seen: &mut [Seen; NODES], p: u8)
     }
     seen[p as usize] = Seen::Marked;
     let sinks = t.sinks.as_slice();
-    let mut frames = [Frame { node: 0, at: 0 }; NODES];
-    frames[0] = Frame { node: p, at: 0 };
-    let mut depth: usize = 1;
-    while 0 < depth {
-        let top = depth - 1;
-        let f = frames[top];
-        let Some(e) = sinks.get(f.at as usize) else {
-            depth = top;
+    let mut path: Table<Frame, NODES> = Table::empty(Frame::default());
+    path.push(Frame { node: p, next: 0 });
+    while let Some(f) = path.pop() {
+        let Some(e) = sinks.get(f.next as usize) else {
             continue;
         };
-        frames[top].at += 1;
+        path.push(Frame {
+            next: f.next + 1,
+            ..f
+        });
         if e.owner == f.node && seen[e.to as usize] == Seen::Unseen {
             seen[e.to as usize] = Seen::Marked;
-            frames[depth] = Frame { node: e.to, at: 0 };
-            depth += 1;
+            path.push(Frame {
+                node: e.to,
+                next: 0,
+            });
         }
     }
 }

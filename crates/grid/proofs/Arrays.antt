@@ -5,10 +5,14 @@ use native.Mathlib.Omega.{arith}
 use native.Mathlib.Numerals.{add-one}
 use native.Mathlib.Nat.{le_of_suc-le-suc, not-suc-le-zero}
 use mathlib.Core.Path.{◌≡◌, ap, sym, ◌∙◌}
+use mathlib.Core.Bool.{Bool}
 use mathlib.Core.List.{List, [], ◌∷◌, ◌++◌}
-use lib.ListN.{length, get_or, set, take, drop}
-use Rattle.std.proofs.lemmas.List.{at_drop_more, at_drop_all, length-take}
-use borrow.Author.Tests.{eq-eqb, ne_eqb}
+use lib.Dec.{ltb}
+use lib.ListN.{length, get_or, set, drop}
+use Rattle.std.proofs.lemmas.List.{at_drop_more, at_drop_all}
+use borrow.Author.Tests.{eq-eqb, ne_eqb, lt-ltb}
+use Rattle.tables.specs.declared.Table.{Table}
+use Rattle.tables.specs.Tables.{pushed, pushed_if}
 use Rattle.graph.specs.declared.Item.{Item}
 use Rattle.graph.specs.Outcome.{no_item}
 use Rattle.graph.specs.code.Tables.{owned, edge_of}
@@ -26,9 +30,9 @@ module _ (p : ℕ) (xs : List Item) (k : ℕ) where
   pub ends-end : length xs ≤ k → owned p (drop k xs) ≡ []
   ends-end h = at_drop_all (owned p) xs k h
 
--- a table's slice is no longer than its array
-pub slice_few : {A : Type 0} (m n : ℕ) (xs ys : List A) → ys ≡ take n xs → length xs ≡ m → length ys ≤ m
-slice_few m n xs ys e l = omega (arith, ap length e, length-take n xs)
+-- an item is put into a table that has room for it
+pub put : {A : Type 0} {m : ℕ} (t u : Table A m) (room : Bool) (x : A) → t.count < m → room ≡ ltb t.count m → u ≡ pushed_if room t x → u ≡ pushed t x
+put {m = m} t u room x h r e = e ∙ ap (λ (b : Bool). pushed_if b t x) (r ∙ lt-ltb t.count m h)
 
 -- ---- a table that is filled from its start
 module _ {A : Type 0} (f : ℕ → A) where

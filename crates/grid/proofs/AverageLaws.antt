@@ -1,6 +1,6 @@
 -- What the averaging step needs: what the boxes from k on leave free around a box, and the columns of some nodes, one by one.
 -- Assumes nothing.
-use Prim.Native.Nat.{ℕ, suc, ◌+◌, ◌<◌, min, max}
+use Prim.Native.Nat.{ℕ, suc, ◌+◌, ◌*◌, ◌≤◌, ◌<◌, min, max}
 use native.Mathlib.Omega.{arith}
 use native.Mathlib.Numerals.{add-one}
 use mathlib.Core.Path.{◌≡◌, refl, ap, sym, ◌∙◌}
@@ -13,7 +13,7 @@ use lib.ListN.{length, drop}
 use lib.Seq.{drop-cons}
 use Rattle.std.specs.Prelude.{Option, Some, None}
 use Rattle.std.specs.Option.{unwrap_or}
-use Rattle.grid.specs.Lists.{largest, smallest}
+use Rattle.grid.specs.Lists.{largest, total}
 use Rattle.grid.specs.Columns.{at, nearer, right_of, left_end, columns_of}
 use Rattle.grid.specs.code.Arrays.{Inside, held}
 
@@ -69,17 +69,16 @@ module _ (r x : ℕ) (rows cols : List ℕ) (k : ℕ) (hr : k < length rows) (hc
       go false t o = ap (nearest (held o)) (sym (rw t at right_more))
 
 -- ---- the columns of some nodes
-module _ (cols nodes : List ℕ) (k : ℕ) (h : k < length nodes) where
-  pub columns_more : columns_of cols (drop k nodes) ≡ at cols (at nodes k) ∷ columns_of cols (drop (k + 1) nodes)
-  columns_more = rw (drop-cons nodes k 0 h, add-one k) refl
-
-pub smallest-min : (m x : ℕ) (xs : List ℕ) → smallest (min m x) xs ≡ min x (smallest m xs)
-smallest-min m x [] = omega arith
-smallest-min m x (a ∷ xs) = omega (arith, smallest-min m x xs)
-
 -- they are below b, if all columns are
 pub columns-below : (cols nodes : List ℕ) (b : ℕ) → 0 < b → Inside (length cols) nodes → Inside b cols → largest (columns_of cols nodes) < b
 columns-below cols [] b z i j = z
 columns-below cols (q ∷ nodes) b z i j =
     let h : at cols q < b = j.below q (i.below 0 (omega arith)) in
     omega (arith, columns-below cols nodes b z (record { below = λ k l. i.below (suc k) (omega arith) }) j)
+
+pub columns-total : (cols nodes : List ℕ) (b : ℕ) → Inside (length cols) nodes → Inside b cols → total (columns_of cols nodes) ≤ b * length nodes
+columns-total cols [] b i j = omega arith
+columns-total cols (q ∷ nodes) b i j =
+    let h : at cols q < b = j.below q (i.below 0 (omega arith)) in
+    let e : b * suc (length nodes) ≡ b + b * length nodes = omega arith in
+    omega (arith, h, e, columns-total cols nodes b (record { below = λ k l. i.below (suc k) (omega arith) }) j)

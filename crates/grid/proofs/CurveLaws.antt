@@ -1,42 +1,42 @@
--- Laws of the outputs and the curves.
+-- Laws of the curves: an output that is joined is an end.
 -- Assumes nothing.
-use Prim.Native.Nat.{ℕ, zero, suc, ◌+◌, ◌/◌}
+use Prim.Native.Nat.{ℕ, zero, suc}
 use mathlib.Core.Path.{◌≡◌, refl}
-use mathlib.Core.Option.{Option, none, some}
+use mathlib.Core.Option.{none, some}
+use mathlib.Core.Option as maybe
 use mathlib.Core.Bool.{Bool, true, false, cond}
-use mathlib.Core.List.{List, [], ◌∷◌, ◌++◌}
+use mathlib.Core.List.{List, [], ◌∷◌, map}
 use lib.Dec.{eqb}
-use Rattle.graph.specs.Graph.{Edge}
+use Rattle.std.specs.Prelude.{Option, Some, None}
+use Rattle.std.specs.List.{find, slice_get}
+use Rattle.laws.specs.Lists.{one}
 use Rattle.grid.specs.declared.Curve.{Curve}
-use Rattle.grid.specs.RenderNode.{Input, Output, end_width, outputs_at}
+use Rattle.grid.specs.declared.render_node.row.End.{End}
+use Rattle.grid.specs.RenderNode.{Input}
 use Rattle.grid.specs.Curves.{output_at, first_to, output_for, curve_if}
-use Rattle.grid.specs.code.Laid.{found_of, curve_of, Curves, added, add_all}
+use Rattle.grid.specs.code.Row.{end_for}
+use Rattle.grid.proofs.RowLaws.{output_of}
 
--- every output has the height of the run
-at-height : (gap x y : ℕ) (es : List Edge) (m : ℕ) (i : Input) →
-    curve_if (output_at (outputs_at gap x y es) m) i ≡ curve_of (found_of (output_at (outputs_at gap x y es) m)) y i.x i.y
-at-height gap x y [] m i = refl
-at-height gap x y (e ∷ es) zero i = refl
-at-height gap x y (e ∷ es) (suc m) i = at-height gap (x + end_width e + gap) y es m i
+-- the curve from an end at height y
+abbrev pub curve_of : Option End → ℕ → Input → List Curve
+curve_of None y i = []
+curve_of (Some e) y i = one (record { x0 = e.point; y0 = y; x1 = i.x; y1 = i.y })
 
-pick : (b : Bool) (o p : Option Output) (y : ℕ) (i : Input) →
-    curve_if o i ≡ curve_of (found_of o) y i.x i.y → curve_if p i ≡ curve_of (found_of p) y i.x i.y →
-    curve_if (cond b o p) i ≡ curve_of (found_of (cond b o p)) y i.x i.y
-pick true o p y i h l = h
-pick false o p y i h l = l
+module _ (y k : ℕ) (i : Input) where
+  first-end : (es : List End) → curve_if (first_to (map (output_of y) es) k) i ≡ curve_of (find (λ e. eqb e.item.to k) es) y i
+  first-end [] = refl
+  first-end (e ∷ es) = go (eqb e.item.to k) (first-end es)
+    where
+      go : (b : Bool) → curve_if (first_to (map (output_of y) es) k) i ≡ curve_of (find (λ e. eqb e.item.to k) es) y i →
+          curve_if (cond b (some (output_of y e)) (first_to (map (output_of y) es) k)) i ≡ curve_of (cond b (Some e) (find (λ e. eqb e.item.to k) es)) y i
+      go true rest = refl
+      go false rest = rest
 
-first-height : (gap x y : ℕ) (es : List Edge) (k : ℕ) (i : Input) →
-    curve_if (first_to (outputs_at gap x y es) k) i ≡ curve_of (found_of (first_to (outputs_at gap x y es) k)) y i.x i.y
-first-height gap x y [] k i = refl
-first-height gap x y (e ∷ es) k i =
-    pick (eqb e.to k) (some (record { x = x + end_width e / 2; y = y; to = e.to })) (first_to (outputs_at gap (x + end_width e + gap) y es) k) y i refl
-    (first-height gap (x + end_width e + gap) y es k i)
+  numbered-end : (es : List End) (m : ℕ) → curve_if (output_at (map (output_of y) es) m) i ≡ curve_of (slice_get es m) y i
+  numbered-end [] m = refl
+  numbered-end (e ∷ es) zero = refl
+  numbered-end (e ∷ es) (suc m) = numbered-end es m
 
-pub curve-is : (gap x y : ℕ) (es : List Edge) (mark : Option ℕ) (k : ℕ) (i : Input) →
-    curve_if (output_for mark (outputs_at gap x y es) k) i ≡ curve_of (found_of (output_for mark (outputs_at gap x y es) k)) y i.x i.y
-curve-is gap x y es none k i = first-height gap x y es k i
-curve-is gap x y es (some m) k i = at-height gap x y es m i
-
-pub add-join : (s : Curves) (a b : List Curve) → add_all s (a ++ b) ≡ add_all (add_all s a) b
-add-join s [] b = refl
-add-join s (c ∷ a) b = add-join (added s c) a b
+  pub curve-is : (mark : maybe.Option ℕ) (es : List End) → curve_if (output_for mark (map (output_of y) es) k) i ≡ curve_of (end_for mark k es) y i
+  curve-is none es = first-end es
+  curve-is (some m) es = numbered-end es m

@@ -1,10 +1,10 @@
 -- Laws of the labels.
 -- Assumes nothing.
-use Prim.Native.Nat.{ℕ, zero, suc, ◌+◌, ◌-◌, ◌/◌, ◌≤◌, ◌<◌}
+use Prim.Native.Nat.{ℕ, zero, suc, ◌+◌, ◌-◌, ◌*◌, ◌/◌, ◌≤◌, ◌<◌}
 use native.Mathlib.Omega.{arith}
 use mathlib.Core.Path.{◌≡◌, refl, ap, sym, ◌∙◌}
-use mathlib.Core.Bool.{Bool, true, false}
-use mathlib.Core.List.{List, [], ◌∷◌, ◌++◌, map, append_assoc}
+use mathlib.Core.Bool.{Bool, true, false, cond}
+use mathlib.Core.List.{List, [], ◌∷◌, ◌++◌, map}
 use lib.Dec.{ltb}
 use lib.ListN.{length, get_or, get_or-eq_default}
 use native.Mathlib.Nat.{zero-add}
@@ -12,12 +12,15 @@ use Rattle.laws.specs.Lists.{tabulate, padded}
 use Rattle.laws.proofs.Lists.{length-tabulate, get_d_tabulate, map-tabulate}
 use Rattle.chart.specs.code.Filled.{owned_lines, lines_of as texts_of'}
 use Rattle.graph.specs.declared.Name.TheVariants.{Nothing}
+use Rattle.graph.specs.declared.Item.{Item}
 use Rattle.graph.specs.declared.Tables.{Tables}
 use Rattle.graph.specs.Graph.{Line, given, Edge, Node, Graph, node_at}
-use Rattle.graph.specs.code.Tables.{owned, items_of, name_line, graph_of}
+use Rattle.graph.specs.code.Tables.{owned, edge_of, items_of, name_line, graph_of}
 use Rattle.grid.specs.declared.LabelPlace.{LabelPlace}
-use Rattle.std.specs.Prelude.{Some, None, Result, Ok, Err}
-use Rattle.std.specs.Result.{result_ok}
+use Rattle.grid.specs.declared.TextPlace.TheVariants.{InChart}
+use Rattle.std.specs.Prelude.{Some, None}
+use Rattle.std.specs.List.{filter_map, cons_option, slice_get}
+use Rattle.std.proofs.lemmas.List.{map-append}
 use Rattle.grid.specs.declared.render_node.RenderNode.{RenderNode}
 use Rattle.grid.specs.RenderNode.{Text, end_texts, text_if, line_texts, end_width, text_length, drawn, source_gap, sink_gap, first_x, input_y, output_y, center_y, inner_width, center_width}
 use Rattle.grid.specs.Record.{no_box}
@@ -25,25 +28,35 @@ use Rattle.grid.specs.RenderGrid.{text_moved, box_of, sheet_of}
 use Rattle.grid.specs.Curves.{no_outputs, box_record, record_of}
 use Rattle.grid.specs.declared.BoxRecord.{BoxRecord}
 use Rattle.grid.proofs.Arrays.{filled_at}
-use Rattle.grid.specs.Labels.{label_at, label_of}
-use Rattle.grid.specs.code.Sited.{seek, node_label}
+use Rattle.grid.specs.Labels.{place_of, label_at, label_of}
+use Rattle.grid.specs.code.Sited.{end_place, node_label}
+use Rattle.grid.specs.code.Row.{ends_at, own}
+use Rattle.grid.proofs.RowLaws.{owned-are}
 use Rattle.grid.specs.code.Rendered.{render_of}
 use Rattle.grid.proofs.NodeLaws.{node-is}
 
--- ---- one list after another
-abbrev onward : Result LabelPlace ℕ → (ℕ → Result LabelPlace ℕ) → Result LabelPlace ℕ
-onward (Ok p) next = Ok p
-onward (Err left) next = next left
+-- ---- the labels of texts
+label-get : (ts : List Text) (i : ℕ) → label_at ts i ≡ slice_get (map place_of ts) i
+label-get [] i = refl
+label-get (t ∷ ts) zero = refl
+label-get (t ∷ ts) (suc i) = label-get ts i
 
-seek-at : (ts : List Text) (i : ℕ) → label_at ts i ≡ result_ok (seek ts i)
-seek-at [] i = refl
-seek-at (t ∷ ts) zero = refl
-seek-at (t ∷ ts) (suc i) = seek-at ts i
+end_labels : (gap y : ℕ) (es : List Item) (x : ℕ) → map place_of (end_texts gap x y (map edge_of es)) ≡ filter_map (end_place y) (ends_at gap x es)
+end_labels gap y [] x = refl
+end_labels gap y (e ∷ es) x = go (ltb 0 e.len) (end_labels gap y es (x + 128 * e.len + gap))
+  where
+    go : (b : Bool) → map place_of (end_texts gap (x + 128 * e.len + gap) y (map edge_of es)) ≡ filter_map (end_place y) (ends_at gap (x + 128 * e.len + gap) es) →
+        map place_of (text_if b (record { x = x; y = y; size = 232; width = 128 * e.len; line = given (edge_of e).text }) (end_texts gap (x + 128 * e.len + gap) y (map edge_of es)))
+        ≡ cons_option (cond b (Some (record { x = x; y = y; size = 232; width = 128 * e.len; text = InChart e.at e.len })) None) (filter_map (end_place y) (ends_at gap (x + 128 * e.len + gap) es))
+    go true rest = ap (λ ps. record { x = x; y = y; size = 232; width = 128 * e.len; text = InChart e.at e.len } ∷ ps) rest
+    go false rest = rest
 
-seek-join : (a b : List Text) (i : ℕ) → seek (a ++ b) i ≡ onward (seek a i) (seek b)
-seek-join [] b i = refl
-seek-join (t ∷ a) b zero = refl
-seek-join (t ∷ a) b (suc i) = seek-join a b i
+-- those of the ends that p owns
+abbrev pub labels-at : ℕ → ℕ → ℕ → ℕ → List Item → List LabelPlace
+labels-at p gap x y xs = filter_map (end_place y) (ends_at gap x (own p xs))
+
+labels_owned : (p gap x y : ℕ) (xs : List Item) → map place_of (end_texts gap x y (owned p xs)) ≡ labels-at p gap x y xs
+labels_owned p gap x y xs = rw (owned-are (λ r. r.owner) edge_of p xs) (end_labels gap y (own p xs) x)
 
 -- ---- texts that are moved
 module _ (dx dy : ℕ) where
@@ -67,10 +80,6 @@ module _ (dx dy : ℕ) where
       let b : wy + dy + 512 + 128 ≡ wy + 512 + 128 + dy = omega arith in
       rw (a, b, lines-moved x (wy + 512 + 128) ls)
 
-  pub texts-moved : (a b : List Text) → map (text_moved dx dy) (a ++ b) ≡ map (text_moved dx dy) a ++ map (text_moved dx dy) b
-  texts-moved [] b = refl
-  texts-moved (t ∷ a) b = ap (λ (l : List Text). text_moved dx dy t ∷ l) (texts-moved a b)
-
 -- ---- the texts of a node whose box is at x and y
 abbrev top : Node → ℕ → ℕ → List Text
 top n x y = end_texts (source_gap n) (first_x (source_gap n) n.sources + x) (input_y n + 256 - 48 + y) n.sources
@@ -82,72 +91,37 @@ abbrev low : Node → ℕ → ℕ → List Text
 low n x y = end_texts (sink_gap n) (first_x (sink_gap n) n.sinks + x) (output_y n - 48 + y) n.sinks
 
 module _ (n : Node) (x y : ℕ) where
-  parts : map (text_moved x y) (drawn n).texts ≡ top n x y ++ (mid n x y ++ low n x y)
+  parts : map (text_moved x y) (drawn n).texts ≡ top n x y ++ mid n x y ++ low n x y
   unfolding drawn
   parts =
       let a = end_texts (source_gap n) (first_x (source_gap n) n.sources) (input_y n + 256 - 48) n.sources in
       let b = line_texts ((inner_width n - center_width n) / 2 + 128) (center_y n) n.lines in
       let c = end_texts (sink_gap n) (first_x (sink_gap n) n.sinks) (output_y n - 48) n.sinks in
-      let e : a ++ b ++ c ≡ a ++ (b ++ c) = append_assoc a b c in
-      ap (map (text_moved x y)) e
-      ∙ texts-moved x y a (b ++ c)
-      ∙ ap (λ (l : List Text). map (text_moved x y) a ++ l) (texts-moved x y b c)
+      map-append (text_moved x y) (a ++ b) c
+      ∙ ap (λ (l : List Text). l ++ map (text_moved x y) c) (map-append (text_moved x y) a b)
       ∙ cc (
         ends-moved x y (source_gap n) (first_x (source_gap n) n.sources) (input_y n + 256 - 48) n.sources,
         lines-moved x y ((inner_width n - center_width n) / 2 + 128) (center_y n) n.lines,
         ends-moved x y (sink_gap n) (first_x (sink_gap n) n.sinks) (output_y n - 48) n.sinks,
       )
 
--- the label that the code looks for in the three parts, one after the other
-module _ (g : Tables) (p : ℕ) (h : p < g.n) (x y i : ℕ) (v : RenderNode) (is : v ≡ render_of (node_at (graph_of g) p)) (first : Result LabelPlace ℕ)
-    (is-first : first ≡ seek (end_texts v.inputs.gap (v.inputs.x + x) (v.inputs.y + 256 - 48 + y) (owned p (items_of g.sources))) i) where
-  abbrev n : Node
-  n = node_at (graph_of g) p
+  label-parts : (i : ℕ) → node_label n x y i ≡ slice_get (map place_of (top n x y) ++ map place_of (mid n x y) ++ map place_of (low n x y)) i
+  label-parts i =
+      ap (λ (l : List Text). label_at l i) parts
+      ∙ label-get (top n x y ++ mid n x y ++ low n x y) i
+      ∙ ap (λ (l : List LabelPlace). slice_get l i)
+      (map-append place_of (top n x y ++ mid n x y) (low n x y) ∙ ap (λ (l : List LabelPlace). l ++ map place_of (low n x y)) (map-append place_of (top n x y) (mid n x y)))
 
-  sources-are : n.sources ≡ owned p (items_of g.sources)
-  sources-are = ap (λ (v : Node). v.sources) (node-is g p h)
-
-  lines_are : n.lines ≡ map given (owned_lines p (texts_of' g.lines)) ++ name_line (get_or g.names p Nothing)
-  lines_are = ap (λ (v : Node). v.lines) (node-is g p h)
-
-  sinks-are : n.sinks ≡ owned p (items_of g.sinks)
-  sinks-are = ap (λ (v : Node). v.sinks) (node-is g p h)
-
-  first-is : first ≡ seek (top n x y) i
-  unfolding render_of
-  first-is = is-first ∙ rw (is, ← sources-are)
-
-  -- the whole search
-  by_first : node_label n x y i ≡ result_ok (onward first (seek (mid n x y ++ low n x y)))
-  by_first =
-      ap (λ (l : List Text). label_at l i) (parts n x y) ∙ seek-at (top n x y ++ (mid n x y ++ low n x y)) i
-      ∙ ap result_ok (seek-join (top n x y) (mid n x y ++ low n x y) i)
-      ∙ ap (λ (r : Result LabelPlace ℕ). result_ok (onward r (seek (mid n x y ++ low n x y)))) (sym first-is)
-
-  pub label_first : (q : LabelPlace) → first ≡ Ok q → Some q ≡ node_label n x y i
-  label_first q e = sym (by_first ∙ rw e)
-
-  module _ (j : ℕ) (passed : first ≡ Err j) (second : Result LabelPlace ℕ)
-      (is-second : second ≡ seek (line_texts (v.cx + x) (v.cy + y) (map given (owned_lines p (texts_of' g.lines)) ++ name_line (get_or g.names p Nothing))) j) where
-    second_is : second ≡ seek (mid n x y) j
-    unfolding render_of
-    second_is = is-second ∙ rw (is, ← lines_are)
-
-    by-second : node_label n x y i ≡ result_ok (onward second (seek (low n x y)))
-    by-second =
-        by_first ∙ rw passed (ap result_ok (seek-join (mid n x y) (low n x y) j))
-        ∙ ap (λ (r : Result LabelPlace ℕ). result_ok (onward r (seek (low n x y)))) (sym second_is)
-
-    pub label_second : (q : LabelPlace) → second ≡ Ok q → Some q ≡ node_label n x y i
-    label_second q e = sym (by-second ∙ rw e)
-
-    pub label_third : (k : ℕ) → second ≡ Err k → (third : Result LabelPlace ℕ) →
-        third ≡ seek (end_texts v.outputs.gap (v.outputs.x + x) (v.outputs.y - 48 + y) (owned p (items_of g.sinks))) k →
-        result_ok third ≡ node_label n x y i
-    unfolding render_of
-    label_third k e third is-third =
-        let z : third ≡ seek (low n x y) k = is-third ∙ rw (is, ← sinks-are) in
-        ap result_ok z ∙ sym (by-second ∙ rw e)
+-- the labels of node p of the tables: those of its sources, of its lines and of its sinks
+pub labels-are : (g : Tables) (p : ℕ) → p < g.n → (x y i : ℕ) (v : RenderNode) → v ≡ render_of (node_at (graph_of g) p) →
+    node_label (node_at (graph_of g) p) x y i
+    ≡ slice_get
+    (labels-at p v.inputs.gap (v.inputs.x + x) (v.inputs.y + 256 - 48 + y) (items_of g.sources)
+    ++ map place_of (line_texts (v.cx + x) (v.cy + y) (map given (owned_lines p (texts_of' g.lines)) ++ name_line (get_or g.names p Nothing)))
+    ++ labels-at p v.outputs.gap (v.outputs.x + x) (v.outputs.y - 48 + y) (items_of g.sinks)) i
+unfolding render_of
+labels-are g p h x y i v is =
+    label-parts (node_at (graph_of g) p) x y i ∙ rw (is, node-is g p h) (simp labels_owned)
 
 -- the label of a box of the sheet, by the box's place in the record
 pub label_sheet : (g : Graph) (cuts : ℕ) (cols rows : List ℕ) (x y : ℕ) → length g ≤ 48 → (k i : ℕ) → k < length g →

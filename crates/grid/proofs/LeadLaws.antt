@@ -8,9 +8,11 @@ use mathlib.Core.Path.{◌≡◌, refl, ap, sym, ◌∙◌}
 use mathlib.Core.Logic.{inl, inr}
 use mathlib.Core.List.{List, [], ◌++◌, append_assoc, append-nil}
 use lib.ListN.{length, set, drop, replicate, length-append, length-set, get_or-append}
-use lib.Seq.{sets, sets-eq, get_or-set_same, get_or-set_other, take-append_seam, drop-append_seam}
+use lib.Seq.{sets-eq, length-sets, get_or-set_same, get_or-set_other, take-append_seam, drop-append_seam}
 use Rattle.laws.proofs.Lists.{length-tabulate, get_d_tabulate, tabulate-same, sets_append, all_join}
 use Rattle.laws.proofs.Tests.{same?}
+use Rattle.tables.specs.declared.Table.{Table}
+use Rattle.tables.specs.Tables.{empty}
 use Rattle.graph.specs.Items.{Ends}
 use Rattle.graph.specs.Shape.{incidents_at, no_incidents}
 use Rattle.graph.specs.Ends.{ends_of, incidents_in, shape_from, Linked}
@@ -18,7 +20,7 @@ use Rattle.order.specs.Claims.{Under}
 use Rattle.order.proofs.Legs.{sum_to}
 use Rattle.order.proofs.Pushed.{under-targets, ends-few}
 use Rattle.grid.specs.Columns.{at}
-use Rattle.grid.specs.code.Leads.{part, leads_at, shape_in, Led}
+use Rattle.grid.specs.code.Leads.{part, leads_at, with_all, shape_in, Led}
 use Rattle.grid.proofs.Arrays.{all-at}
 
 -- the ends of the first p nodes, node by node, sources before sinks
@@ -26,9 +28,15 @@ unfoldable pub ends_to : Ends → Ends → ℕ → List ℕ
 ends_to s k zero = []
 ends_to s k (suc p) = ends_to s k p ++ (ends_of s p ++ ends_of k p)
 
--- they stand in an array
-unfoldable pub table_to : Ends → Ends → ℕ → List ℕ
-table_to s k p = sets (replicate 176 0) 0 (ends_to s k p)
+-- they stand in a table
+unfoldable pub table_to : Ends → Ends → ℕ → Table ℕ 176
+table_to s k p = with_all (empty 176 0) (ends_to s k p)
+
+-- these, and then those
+with-more : (t : Table ℕ 176) (xs ys : List ℕ) → with_all (with_all t xs) ys ≡ with_all t (xs ++ ys)
+with-more t xs ys =
+    let e : t.count + length xs + length ys ≡ t.count + length (xs ++ ys) = omega (arith, length-append xs ys) in
+    cc (sets_append t.items t.count xs ys, e)
 
 module _ (s k : Ends) where
   ends_next : (p : ℕ) → ends_to s k (p + 1) ≡ ends_to s k p ++ (ends_of s p ++ ends_of k p)
@@ -36,16 +44,15 @@ module _ (s k : Ends) where
   ends_next p = ap (ends_to s k) (add-one p)
 
   -- node p's are put: first its sources, then its sinks
-  pub ends-put : (p m e : ℕ) (t u v : List ℕ) → e ≡ length (ends_to s k p) → m ≡ e + length (ends_of s p) →
-      t ≡ table_to s k p → u ≡ sets t e (ends_of s p) → v ≡ sets u m (ends_of k p) → v ≡ table_to s k (p + 1)
+  pub ends-put : (p : ℕ) → with_all (with_all (table_to s k p) (ends_of s p)) (ends_of k p) ≡ table_to s k (p + 1)
   unfolding table_to
-  ends-put p m e t u v ie im it iu iv =
-      let l : List ℕ = replicate 176 0 in
-      let z : e ≡ 0 + length (ends_to s k p) = omega arith in
-      rw (iv, iu, im)
-      (sym (sets_append t e (ends_of s p) (ends_of k p))
-      ∙ rw (it, z) (sym (sets_append l 0 (ends_to s k p) (ends_of s p ++ ends_of k p)))
-      ∙ ap (sets l 0) (sym (ends_next p)))
+  ends-put p =
+      with-more (table_to s k p) (ends_of s p) (ends_of k p) ∙ with-more (empty 176 0) (ends_to s k p) (ends_of s p ++ ends_of k p)
+      ∙ ap (with_all (empty 176 0)) (sym (ends_next p))
+
+  pub table-count : (p : ℕ) → (table_to s k p).count ≡ length (ends_to s k p)
+  unfolding table_to
+  table-count p = omega arith
 
   pub ends-long : (p : ℕ) → length (ends_to s k (p + 1)) ≡ length (ends_to s k p) + length (ends_of s p) + length (ends_of k p)
   ends-long p = rw (ends_next p, length-append, length-append) (omega arith)
@@ -122,7 +129,7 @@ module _ (n : ℕ) (s k : Ends) (x : Linked n s) (y : Linked n k) where
   -- the table of all nodes
   module _ (bounds : List ℕ) (b : Bounds s k n bounds) where
     abbrev to : List ℕ
-    to = table_to s k n
+    to = (table_to s k n).items
 
     -- what stands after them
     free : List ℕ
@@ -173,9 +180,10 @@ module _ (n : ℕ) (s k : Ends) (x : Linked n s) (y : Linked n k) where
         ]
 
     pub leads-led : Led n to bounds
-    unfolding ends_to
+    unfolding ends_to table_to
     leads-led =
         record {
+          long = length-sets (replicate 176 0) 0 (ends_to s k n);
           nodes = x.nodes;
           rising = rises;
           few = omega (arith, b.start n (omega arith), ends-room n);

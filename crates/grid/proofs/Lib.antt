@@ -20,6 +20,7 @@ pub mod NodeLaws
 pub mod PointLaws
 pub mod CurveLaws
 pub mod LaidLaws
+pub mod RowLaws
 pub mod RecordLaws
 pub mod OwnerLaws
 pub mod SheetLaws

@@ -1,6 +1,6 @@
 -- Laws on lists of numbers.
 -- Assumes nothing.
-use Prim.Native.Nat.{ℕ, zero, suc, max, ◌≤◌, ◌<◌}
+use Prim.Native.Nat.{ℕ, zero, suc, ◌+◌, min, max, ◌≤◌, ◌<◌}
 use native.Mathlib.Omega.{arith}
 use native.Mathlib.Nat.{le_of_suc-le-suc, not-suc-le-zero, eq-or-lt_of_le}
 use mathlib.Core.Path.{◌≡◌, refl, ◌∙◌, subst}
@@ -9,11 +9,13 @@ use mathlib.Core.Bool.{Bool, true, false, ◌||◌}
 use mathlib.Core.List.{List, [], ◌∷◌, map}
 use lib.ListN.{length, get_or, set, get_or-eq_default}
 use lib.Seq.{get_or-set_same, get_or-set_other, set_out}
-use Rattle.std.specs.List.{fold, reduce}
+use Rattle.std.specs.List.{fold, reduce, sum}
+use Rattle.std.proofs.lemmas.List.{get_or_default}
 use Rattle.std.specs.Option.{unwrap_or}
 use Rattle.laws.proofs.Tests.{less?, same?}
-use Rattle.grid.specs.Lists.{largest, smallest}
+use Rattle.grid.specs.Lists.{largest, smallest, total}
 use Rattle.grid.specs.Columns.{at}
+use Rattle.grid.specs.code.Arrays.{Inside}
 
 -- two numbers are the same or not, and one is smaller or not
 pub or_right : (b c : Bool) → c ≡ true → (b || c) ≡ true
@@ -29,6 +31,10 @@ some_below some test step r (suc n) l h =
       | inl e ↦ or_right (some n) (test n) (subst (λ (k : ℕ). test k ≡ true) e h)
       | inr s ↦ rw (some_below some test step r n s h)
     ]
+
+-- a number of a list, each of which is below m
+pub item-below : {m : ℕ} {xs : List ℕ} → Inside m xs → (k : ℕ) → k < length xs → (x : ℕ) → x ≡ get_or xs k x → x < m
+item-below {xs = xs} h k l x e = omega (arith, h.below k l, e ∙ get_or_default xs k x 0 l)
 
 -- a number of the list is at most the largest
 pub at-largest : (xs : List ℕ) (k : ℕ) → k < length xs → at xs k ≤ largest xs
@@ -55,6 +61,23 @@ largest-reduced (x ∷ xs) = largest-from x xs
 pub smallest_le : (m : ℕ) (xs : List ℕ) → smallest m xs ≤ m
 smallest_le m [] = omega arith
 smallest_le m (x ∷ xs) = omega (arith, smallest_le m xs)
+
+-- and so a sum
+total-from : (a : ℕ) (xs : List ℕ) → fold (λ s x. s + x) a xs ≡ a + total xs
+total-from a [] = omega arith
+total-from a (x ∷ xs) = total-from (a + x) xs ∙ omega arith
+
+pub total-summed : (xs : List ℕ) → sum xs ≡ total xs
+total-summed xs = total-from 0 xs ∙ omega arith
+
+smallest-min : (m x : ℕ) (xs : List ℕ) → smallest (min m x) xs ≡ min x (smallest m xs)
+smallest-min m x [] = omega arith
+smallest-min m x (a ∷ xs) = omega (arith, smallest-min m x xs)
+
+-- a chain folds from m on
+pub smallest-folded : (m : ℕ) (xs : List ℕ) → fold min m xs ≡ smallest m xs
+smallest-folded m [] = refl
+smallest-folded m (x ∷ xs) = smallest-folded (min m x) xs ∙ smallest-min m x xs
 
 pub at_map : {A : Type 0} (f : A → ℕ) (xs : List A) (k : ℕ) (d : A) → k < length xs → at (map f xs) k ≡ f (get_or xs k d)
 at_map f [] k d h = absurd (not-suc-le-zero h)

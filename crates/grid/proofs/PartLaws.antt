@@ -59,7 +59,7 @@ module _ (n : ℕ) (to bounds : List ℕ) (l : Led n to bounds) (p : ℕ) (hp : 
   pub short : length (part to a b) ≤ 176
   short = omega (arith, part-short to a b, few)
 
-  pub sources-long : length to ≡ 176 → length (incidents_at (shape_in n to bounds) p).sources ≡ at bounds (2 * p + 1) - a
-  sources-long e =
+  pub sources-long : length (incidents_at (shape_in n to bounds) p).sources ≡ at bounds (2 * p + 1) - a
+  sources-long =
       ap (λ (m : Incidents). length m.sources) (leads-at n to bounds p hp)
-      ∙ part-long to a (at bounds (2 * p + 1)) (led-sources n to bounds l p hp) (omega (arith, led-sinks n to bounds l p hp, few))
+      ∙ part-long to a (at bounds (2 * p + 1)) (led-sources n to bounds l p hp) (omega (arith, l.long, led-sinks n to bounds l p hp, few))

@@ -11,7 +11,9 @@ use lib.ListN.{length, get_or, take, drop, replicate, get_or-map}
 use lib.Seq.{get_or-take, take_at}
 use borrow.Author.Tests.{ltb-true, ltb-false, le-leb}
 use Rattle.laws.specs.Lists.{All}
-use Rattle.laws.proofs.Lists.{all_made, get_d_padded}
+use Rattle.laws.proofs.Lists.{all_made, get_d_padded, take-padded}
+use Rattle.tables.specs.declared.Table.{Table}
+use Rattle.tables.specs.Tables.{empty}
 use Rattle.refusals.specs.declared.Refusal.{Refusal}
 use Rattle.refusals.specs.declared.Refusal.TheVariants.{TooFar}
 use Rattle.chart.specs.declared.Setting.{Setting}
@@ -30,12 +32,11 @@ use Rattle.graph.proofs.Cuts.{length-graph}
 use Rattle.graph.proofs.EndsLaws.{shape-held, sources-long, sinks-long, shape-long}
 use Rattle.order.specs.Chains.{columns as first_columns}
 use Rattle.order.specs.Claims.{Under, Aimed as Led, EachOnce}
-use Rattle.order.specs.Ordered.{columns_in}
 use Rattle.order.proofs.Nodes.{each-once}
 use Rattle.order.proofs.Pushed.{shape_size}
 use Rattle.std.specs.Prelude.{Option, Some, Result, Ok, Err}
 use Rattle.std.specs.Option.{unwrap_or}
-use Rattle.order.specs.Ordered.{IsColumns}
+use Rattle.order.specs.Ordered.{columns_held, columns_in, IsColumns}
 use Rattle.order.proofs.Graphs.{columns-are, sources-linked, sinks-linked, size}
 use Rattle.grid.specs.declared.BoxRecord.{BoxRecord}
 use Rattle.grid.specs.declared.SheetRecord.{SheetRecord}
@@ -175,7 +176,7 @@ module _ (n leads cuts : ℕ) (g : Graph) (sh : Sheet) (t : SheetTheorem n leads
       }
 
 -- ---- what the lower crates promise
-module _ (v : Setting) (s : List ℕ) (w : Result Tables Refusal) (a : Graphs v s w) (t : Tables) (o : w ≡ Ok t) (first : List ℕ) (f : first ≡ unwrap_or (columns_in t.n (ends_in t.sources) (ends_in t.sinks)) (replicate 48 0)) where
+module _ (v : Setting) (s : List ℕ) (w : Result Tables Refusal) (a : Graphs v s w) (t : Tables) (o : w ≡ Ok t) (first : Table ℕ 48) (f : first ≡ unwrap_or (columns_in t.n (ends_in t.sources) (ends_in t.sinks)) (empty 48 0)) where
   sound : Sound t
   sound = a.sound t o
 
@@ -188,26 +189,28 @@ module _ (v : Setting) (s : List ℕ) (w : Result Tables Refusal) (a : Graphs v 
   to : Linked t.n (ends_in t.sinks)
   to = sinks-linked t (sources-long t v s w a o) (sinks-long t v s w a o) sound.linked
 
-  -- the array of the first columns
-  abbrev held : List ℕ
-  held = first_columns (shape_from t.n (ends_in t.sources) (ends_in t.sinks)) ++ replicate (48 - t.n) 0
+  -- the table of the first columns
+  abbrev held : Table ℕ 48
+  held = columns_held (first_columns (shape_from t.n (ends_in t.sources) (ends_in t.sinks)))
 
   columned : IsColumns t.n (ends_in t.sources) (ends_in t.sinks) (Some held)
   columned = columns-are t.n (ends_in t.sources) (ends_in t.sinks) from to held refl
 
   held-is : first ≡ held
-  held-is = f ∙ ap (λ (o : Option (List ℕ)). unwrap_or o (replicate 48 0)) (sym columned.whole)
+  held-is = f ∙ ap (λ (o : Option (Table ℕ 48)). unwrap_or o (empty 48 0)) (sym columned.whole)
 
-  once : EachOnce t.n (take t.n first)
+  once : EachOnce t.n (take t.n first.items)
   once = rw held-is (columned.each held refl)
 
   -- the first columns that the code hands on
-  pub first-is : take t.n first ≡ firsts
+  pub first-is : take t.n first.items ≡ firsts
   first-is =
-      ap (take t.n) (held-is ∙ ap (λ (g : Shape). first_columns g ++ replicate (48 - t.n) 0) (shape-held t))
-      ∙ take_at firsts (replicate (48 - t.n) 0) t.n (size t (sources-long t v s w a o) (sinks-long t v s w a o) sound.linked)
+      let long : length firsts ≡ t.n = size t (sources-long t v s w a o) (sinks-long t v s w a o) sound.linked in
+      ap (λ (cs : Table ℕ 48). take t.n cs.items) (held-is ∙ ap (λ (g : Shape). columns_held (first_columns g)) (shape-held t))
+      ∙ ap (λ (k : ℕ). take k (columns_held firsts).items) (sym long)
+      ∙ take-padded 48 0 firsts (omega (arith, long, sound.linked.nodes))
 
-  pub firsts-are : FirstColumns t.n (take t.n first)
+  pub firsts-are : FirstColumns t.n (take t.n first.items)
   firsts-are =
       record {
         long = once.size;
@@ -331,7 +334,7 @@ module _ (v : Setting) (s : List ℕ) (x y : ℕ) (w : Result Tables Refusal) (a
       let g : graphed v s ≡ refused why = sym a.graphs ∙ rw q in
       record { whole = rw g; boxes = λ d h sheet k. none-cut why d (sym g ∙ h) }
 
-  module _ (t : Tables) (o : w ≡ Ok t) (cs : List ℕ) (q : cs ≡ unwrap_or (columns_in t.n (ends_in t.sources) (ends_in t.sinks)) (replicate 48 0)) where
+  module _ (t : Tables) (o : w ≡ Ok t) (cs : Table ℕ 48) (q : cs ≡ unwrap_or (columns_in t.n (ends_in t.sources) (ends_in t.sinks)) (empty 48 0)) where
     abbrev g : Graph
     g = graph_of t
 
@@ -368,7 +371,7 @@ module _ (v : Setting) (s : List ℕ) (x y : ℕ) (w : Result Tables Refusal) (a
         (columns-few g first columned_first t.cuts laws.boxes) (rows_few g first columned_first t.cuts laws.boxes) x y
 
     -- the sheet of an accepted chart, or 14
-    pub sheet-is : (r : Result SheetRecord Refusal) → r ≡ fitted_of (record_of (sheet g t.cuts (take t.n cs)) x y) → Made v s x y r
+    pub sheet-is : (r : Result SheetRecord Refusal) → r ≡ fitted_of (record_of (sheet g t.cuts (take t.n cs.items)) x y) → Made v s x y r
     unfolding sheeted sheet_of_dag
     sheet-is r e =
         let c : graphed v s ≡ cut (dag_in t) = sym a.graphs ∙ rw o in

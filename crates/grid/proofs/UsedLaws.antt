@@ -10,14 +10,14 @@ use mathlib.Core.Bool.{Bool, true, cond, ◌&&◌, ◌||◌, true≢false}
 use mathlib.Core.List.{List, [], ◌∷◌, ◌++◌}
 use lib.Bits.{bit_or, or_shr, or_step, shifted_even}
 use lib.Dec.{eqb}
-use lib.ListN.{length, set, take, replicate, get_or-replicate}
+use lib.ListN.{length, get_or, set, take, replicate, length-set, get_or-replicate}
 use lib.Pow.{pow-lt, pow-add, pow_pos, shl_exact, shl-shr}
 use lib.Seq.{get_or-set_same, get_or-set_other}
 use borrow.Author.Tests.{eq-eqb, ne_eqb}
 use Rattle.laws.proofs.Tests.{and_false, or_true, or_false, same?, less?}
 use Rattle.grid.specs.Lists.{largest}
 use Rattle.grid.specs.Columns.{at, taken, collision, extra, new_columns}
-use Rattle.grid.specs.code.Arrays.{Stands, Tells, Used, word_of, used_in, collision_in, extra_in, table_to}
+use Rattle.grid.specs.code.Arrays.{Stands, Tells, Used, used_in, collision_in, extra_in, table_to}
 use Rattle.grid.proofs.ListLaws.{some_below}
 use Rattle.grid.proofs.ColumnLaws.{taken_at}
 use Rattle.grid.proofs.FoldLaws.{taken_more}
@@ -48,62 +48,92 @@ bit_other w b c o = let e = none (less? b c) in bit-or w (2 ^ b) c ∙ omega ari
         ∙ omega (arith, shifted_even 1 (b - c - 1))
 
 -- ---- one box more
--- what one word has is of one row
-same_word : (r x y c : ℕ) → x < 160 → c < 160 → word_of r x ≡ word_of y c → (r ≡ y) × (x / 32 ≡ c / 32)
-same_word r x y c h l e = (omega arith, omega arith)
+-- the table has 48 rows of 5 words
+pub record Whole (used : List (List ℕ)) : Type 0 where
+  pub tall : length used ≡ 48
+  pub wide : (r : ℕ) → r < 48 → length (get_or used r []) ≡ 5
+
+-- the bit v is set in word w of row y
+abbrev marked : List (List ℕ) → ℕ → ℕ → ℕ → List (List ℕ)
+marked used y w v = set used y (set (get_or used y []) w (bit_or (at (get_or used y []) w) v))
 
 -- a box of row y in column c
-module _ (used : List ℕ) (y c : ℕ) (long : length used ≡ 240) (hy : y < 48) (hc : c < 160) where
-  abbrev stored : List ℕ
-  stored = set used (word_of y c) (bit_or (at used (word_of y c)) (2 ^ (c % 32)))
+module _ (used : List (List ℕ)) (whole : Whole used) (y c : ℕ) (hy : y < 48) (hc : c < 160) where
+  abbrev stored : List (List ℕ)
+  stored = marked used y (c / 32) (2 ^ (c % 32))
 
-  here : at stored (word_of y c) ≡ bit_or (at used (word_of y c)) (2 ^ (c % 32))
-  here = get_or-set_same used (word_of y c) (bit_or (at used (word_of y c)) (2 ^ (c % 32))) 0 (omega arith)
+  abbrev word : ℕ
+  word = bit_or (at (get_or used y []) (c / 32)) (2 ^ (c % 32))
+
+  own : get_or stored y [] ≡ set (get_or used y []) (c / 32) word
+  own = get_or-set_same used y (set (get_or used y []) (c / 32) word) [] (omega (arith, whole.tall))
+
+  other : (r : ℕ) → (r ≡ y → ⊥) → get_or stored r [] ≡ get_or used r []
+  other r o = get_or-set_other used y r (set (get_or used y []) (c / 32) word) [] o
+
+  here : at (get_or stored y []) (c / 32) ≡ word
+  here = rw own (get_or-set_same (get_or used y []) (c / 32) word 0 (omega (arith, whole.wide y hy)))
+
+  pub stored-whole : Whole stored
+  stored-whole = record {
+    tall = length-set used y (set (get_or used y []) (c / 32) word) ∙ whole.tall;
+    wide = λ r h. elim (same? r y) [
+      | inl e ↦ rw (e, own, length-set (get_or used y []) (c / 32) word) (whole.wide y hy)
+      | inr o ↦ rw (other r o) (whole.wide r h)
+    ];
+  }
 
   stored_there : used_in stored y c ≡ true
-  stored_there = eq-eqb (at stored (word_of y c) / 2 ^ (c % 32) % 2) 1 (ap (λ (w : ℕ). w / 2 ^ (c % 32) % 2) here ∙ bit_set (at used (word_of y c)) (c % 32))
+  stored_there = eq-eqb (at (get_or stored y []) (c / 32) / 2 ^ (c % 32) % 2) 1 (ap (λ (w : ℕ). w / 2 ^ (c % 32) % 2) here ∙ bit_set (at (get_or used y []) (c / 32)) (c % 32))
 
   stored_other : (r x : ℕ) → x < 160 → (((y ≡ r) × (c ≡ x)) → ⊥) → used_in stored r x ≡ used_in used r x
-  stored_other r x h o = ap (λ (b : ℕ). eqb b 1) (go (same? (word_of r x) (word_of y c)))
+  stored_other r x h o = ap (λ (b : ℕ). eqb b 1) (go (same? r y) (same? (x / 32) (c / 32)))
     where
-      go : (word_of r x ≡ word_of y c) ⊎ (word_of r x ≡ word_of y c → ⊥) → at stored (word_of r x) / 2 ^ (x % 32) % 2 ≡ at used (word_of r x) / 2 ^ (x % 32) % 2
-      go (inr d) = ap (λ (w : ℕ). w / 2 ^ (x % 32) % 2) (get_or-set_other used (word_of y c) (word_of r x) (bit_or (at used (word_of y c)) (2 ^ (c % 32))) 0 d)
-      go (inl e) =
-          let s = same_word r x y c h hc e in
-          let d : c % 32 ≡ x % 32 → ⊥ = λ q. o (sym s.0, omega arith) in
-          ap (λ (w : ℕ). at stored w / 2 ^ (x % 32) % 2) e
-          ∙ ap (λ (w : ℕ). w / 2 ^ (x % 32) % 2) here
-          ∙ bit_other (at used (word_of y c)) (c % 32) (x % 32) d
-          ∙ ap (λ (w : ℕ). at used w / 2 ^ (x % 32) % 2) (sym e)
+      go : (r ≡ y) ⊎ (r ≡ y → ⊥) → (x / 32 ≡ c / 32) ⊎ (x / 32 ≡ c / 32 → ⊥) → at (get_or stored r []) (x / 32) / 2 ^ (x % 32) % 2 ≡ at (get_or used r []) (x / 32) / 2 ^ (x % 32) % 2
+      go (inr d) e = rw (other r d)
+      go (inl e) (inr d) = rw (e, own, get_or-set_other (get_or used y []) (c / 32) (x / 32) word 0 d)
+      go (inl e) (inl f) =
+          let d : c % 32 ≡ x % 32 → ⊥ = λ q. o (sym e, omega arith) in
+          rw (e, f, here) (bit_other (at (get_or used y []) (c / 32)) (c % 32) (x % 32) d)
 
 -- the empty table, of no box
-pub used_none : Tells [] [] (replicate 240 0)
+abbrev empty : List (List ℕ)
+empty = replicate 48 (replicate 5 0)
+
+pub none-whole : Whole empty
+none-whole = record { tall = refl; wide = λ r h. ap length (get_or-replicate 48 r (replicate 5 0) [] h) }
+
+pub used_none : Tells [] [] empty
 used_none r x h l =
-    let z : at (replicate 240 0) (word_of r x) / 2 ^ (x % 32) ≡ 0 = ap (λ (w : ℕ). w / 2 ^ (x % 32)) (get_or-replicate 240 (word_of r x) 0 0 (omega arith)) ∙ div-eq_of_lt (pow_pos (x % 32)) in
-    ne_eqb (at (replicate 240 0) (word_of r x) / 2 ^ (x % 32) % 2) 1 (λ q. omega arith)
+    let z : at (get_or empty r []) (x / 32) / 2 ^ (x % 32) ≡ 0 =
+    ap (λ (row : List ℕ). at row (x / 32) / 2 ^ (x % 32)) (get_or-replicate 48 r (replicate 5 0) [] h)
+    ∙ ap (λ (w : ℕ). w / 2 ^ (x % 32)) (get_or-replicate 5 (x / 32) 0 0 (omega arith)) ∙ div-eq_of_lt (pow_pos (x % 32)) in
+    ne_eqb (at (get_or empty r []) (x / 32) / 2 ^ (x % 32) % 2) 1 (λ q. omega arith)
 
 -- box k after those before it
-module _ (rows cols used : List ℕ) (k : ℕ) (hr : k < length rows) (hc : k < length cols) (long : length used ≡ 240) (hy : at rows k < 48) (hx : at cols k < 160) (u : Tells (take k rows) (take k cols) used) where
-  abbrev after : List ℕ
-  after = stored used (at rows k) (at cols k) long hy hx
+module _ (rows cols : List ℕ) (used : List (List ℕ)) (k : ℕ) (hr : k < length rows) (hc : k < length cols) (whole : Whole used) (hy : at rows k < 48) (hx : at cols k < 160) (u : Tells (take k rows) (take k cols) used) where
+  abbrev after : List (List ℕ)
+  after = stored used whole (at rows k) (at cols k) hy hx
 
   used_next : (r x : ℕ) → r < 48 → x < 160 → (at rows k ≡ r) ⊎ (at rows k ≡ r → ⊥) → (at cols k ≡ x) ⊎ (at cols k ≡ x → ⊥) →
       used_in after r x ≡ taken (take k rows) (take k cols) r x || (eqb (at rows k) r && eqb (at cols k) x)
   used_next r x h l (inl e) (inl f) =
       ap (λ (i : ℕ). used_in after i x) (sym e) ∙ ap (λ (j : ℕ). used_in after (at rows k) j) (sym f)
-      ∙ stored_there used (at rows k) (at cols k) long hy hx
+      ∙ stored_there used whole (at rows k) (at cols k) hy hx
       ∙ sym (rw (eq-eqb (at rows k) r e, eq-eqb (at cols k) x f) (or_true (taken (take k rows) (take k cols) r x)))
   used_next r x h l (inl e) (inr o) =
-      stored_other used (at rows k) (at cols k) long hy hx r x l (λ q. o q.1) ∙ u r x h l
+      stored_other used whole (at rows k) (at cols k) hy hx r x l (λ q. o q.1) ∙ u r x h l
       ∙ sym (rw (ne_eqb (at cols k) x o, and_false (eqb (at rows k) r)) (or_false (taken (take k rows) (take k cols) r x)))
   used_next r x h l (inr o) q =
-      stored_other used (at rows k) (at cols k) long hy hx r x l (λ q. o q.0) ∙ u r x h l
+      stored_other used whole (at rows k) (at cols k) hy hx r x l (λ q. o q.0) ∙ u r x h l
       ∙ sym (rw (ne_eqb (at rows k) r o) (or_false (taken (take k rows) (take k cols) r x)))
 
-  -- by the code's numbers: the word's place, and the bit
-  pub used_more : {i v : ℕ} → i ≡ word_of (at rows k) (at cols k) → v ≡ 2 ^ (at cols k % 32) → Tells (take (k + 1) rows) (take (k + 1) cols) (set used i (bit_or (at used i) v))
-  used_more {i} {v} e f r x h l =
-      rw (e, f, add-one k, taken_more rows cols k r x hr hc) (used_next r x h l (same? (at rows k) r) (same? (at cols k) x))
+  -- by the code's bit
+  pub used_more : {v : ℕ} → v ≡ 2 ^ (at cols k % 32) → Whole (marked used (at rows k) (at cols k / 32) v) × Tells (take (k + 1) rows) (take (k + 1) cols) (marked used (at rows k) (at cols k / 32) v)
+  used_more e = rw e (
+    stored-whole used whole (at rows k) (at cols k) hy hx,
+    λ r x h l. rw (add-one k, taken_more rows cols k r x hr hc) (used_next r x h l (same? (at rows k) r) (same? (at cols k) x)),
+  )
 
 -- ---- exactly if a box of that row stands there
 -- a place that is taken has a box
@@ -121,7 +151,7 @@ taken-box (y ∷ rows) (c ∷ cols) r x h = go (taken-box rows cols r x) (same? 
     go i (inr o) q = later (i (rw (ne_eqb y r o) at h))
 
 -- the table of all boxes
-pub used_all : (rows cols used : List ℕ) → length cols ≡ length rows → Tells rows cols used → Used rows cols used
+pub used_all : (rows cols : List ℕ) (used : List (List ℕ)) → length cols ≡ length rows → Tells rows cols used → Used rows cols used
 used_all rows cols used e u =
     record {
       exactly = λ r x h l. (λ t. taken-box rows cols r x (sym (u r x h l) ∙ t), λ b. u r x h l ∙ taken_at rows cols b.0 r x b.1 (omega (arith, b.1)) b.2 b.3);
@@ -130,7 +160,7 @@ used_all rows cols used e u =
 
 -- ---- the pair of columns x and x + 1
 -- a row that uses both
-pub found_in : (used : List ℕ) (x r h : ℕ) → r < h → used_in used r x ≡ true → used_in used r (x + 1) ≡ true → collision_in used x h ≡ true
+pub found_in : (used : List (List ℕ)) (x r h : ℕ) → r < h → used_in used r x ≡ true → used_in used r (x + 1) ≡ true → collision_in used x h ≡ true
 found_in used x r h l a b = some_below (collision_in used x) (λ q. used_in used q x && used_in used q (x + 1)) (λ q. refl) r h l (rw (a, b))
 
 -- pairs that become as many columns by f as by g
@@ -139,7 +169,7 @@ new-same f g zero x new s = refl
 new-same f g (suc k) x new s = rw (s x (omega arith), new-same f g k (x + 2) (suc (new + g x)) (λ i l. s i (omega arith)))
 
 -- the table says of the first h rows what the boxes say, and so of every pair
-module _ (rows cols used : List ℕ) (u : Tells rows cols used) where
+module _ (rows cols : List ℕ) (used : List (List ℕ)) (u : Tells rows cols used) where
   collision-same : (x h : ℕ) → h ≤ 48 → x + 1 < 160 → collision_in used x h ≡ collision rows cols x h
   collision-same x zero l b = refl
   collision-same x (suc r) l b =

@@ -2,7 +2,9 @@
 pub mod Arrays
 pub mod Laid
 pub mod Leads
+pub mod LineLabels
 pub mod Placed
 pub mod Rendered
+pub mod Row
 pub mod Sited
 pub mod Walk

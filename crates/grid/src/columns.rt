@@ -3,43 +3,37 @@ ghost use Rattle.std.specs.Prelude.{◌≡◌, map, ℕ, ◌<◌, ◌≤◌, ◌
 ghost use Rattle.grid.specs.Lists.{largest, smallest, total};
 ghost use Rattle.grid.specs.Columns.{at, taken, fold_from, left_end, right_of, right_end, average_to, target, first_move, mean, columns_of, incidents, first_moves, average, round, columns};
 ghost use Rattle.grid.specs.code.Placed.{FirstColumns};
-ghost use Rattle.grid.specs.code.Arrays.{Boxes, Inside, Used, word_of, used_in, extra_in, table_to};
+ghost use Rattle.grid.specs.code.Arrays.{Boxes, Inside, Used, used_in, extra_in, table_to};
 
 use crate::leads::Leads;
 use crate::lists::largest_of;
 
-// The word of the table of used columns that has the bit of column x in row r. A row has 160 bits: the last pair may be columns 143 and 144.
-fn word_of(r: u8, x: u8) -> usize
-    requires { (r < 48) × (x < 160) }
-    ensures { (result ≡ word_of r x) × (result < 240) }
-{
-    5 * r as usize + (x / 32) as usize
-}
+// The columns that each row uses, a bit for each. A row has 160 bits, 32 in a word: the last pair may be columns 143 and 144.
+type UsedColumns = [[u32; 5]; 48];
 
-// Whether row r uses column x, by the table.
-fn is_used(used: &[u32; 240], r: u8, x: u8) -> bool
+// Whether row r uses column x.
+fn is_used(used: &UsedColumns, r: u8, x: u8) -> bool
     requires { (r < 48) × (x < 160) }
     ensures { result ≡ used_in used.now r x }
 {
-    (used[word_of(r, x)] >> (x % 32)) % 2 == 1
+    (used[r as usize][(x / 32) as usize] >> (x % 32)) % 2 == 1
 }
 
-// The table of used columns: a column of a row is used exactly if a box of that row stands there.
-fn used_columns(rows: &[u8], cols: &[u8]) -> [u32; 240]
+// A column of a row is used exactly if a box of that row stands there.
+fn used_columns(rows: &[u8], cols: &[u8]) -> UsedColumns
     requires { Boxes (length rows.now) rows.now cols.now }
     ensures { Used rows.now cols.now result }
 {
-    let mut used = [0u32; 240];
+    let mut used = [[0u32; 5]; 48];
     for (k, x) in cols.iter().enumerate() {
-        let i = word_of(rows[k], *x);
-        used[i] |= 1u32 << (*x % 32);
+        used[rows[k] as usize][(*x / 32) as usize] |= 1u32 << (*x % 32);
     }
     used
 }
 
 // The new column of each column, for so many pairs from start on. The search through the rows stops at the first collision,
 // which the used columns alone tell; it yields its value by `break` inside the loop over pairs, as document 01 asks.
-fn new_columns(used: &[u32; 240], height: u8, start: u8, pairs: u8) -> [u8; 146]
+fn new_columns(used: &UsedColumns, height: u8, start: u8, pairs: u8) -> [u8; 146]
     requires { (height ≤ 48) × (start ≤ 1) × (pairs ≤ 72) }
     ensures { take (start + 2 * pairs) result ≡ table_to start pairs (extra_in used.now height) }
 {
@@ -99,20 +93,22 @@ fn folds(rows: &[u8], cols: &mut [u8])
     }
 }
 
-// Where a box at column x of row r may go.
+// Where a box may go.
 #[derive(Clone, Copy)]
 pub struct Room {
     pub low: u8,
     pub high: u8,
 }
 
-// The first place after the left neighbour, or 0, and the last before the right one, or x where there is none.
-fn room_of(rows: &[u8], cols: &[u8], r: u8, x: u8) -> Room
+// The first place after the left neighbour of box p, or 0, and the last before the right one, or its own where there is none.
+fn room_of(rows: &[u8], cols: &[u8], p: usize) -> Room
     requires boxes { Boxes (length rows.now) rows.now cols.now }
-    requires x_bound { x < 144 }
-    ensures low { result.low ≡ left_end rows.now cols.now r x }
-    ensures high { result.high ≡ right_end x (right_of rows.now cols.now r x) }
+    requires p_lt_n { p < length rows.now }
+    ensures low { result.low ≡ left_end rows.now cols.now (at rows.now p) (at cols.now p) }
+    ensures high { result.high ≡ right_end (at cols.now p) (right_of rows.now cols.now (at rows.now p) (at cols.now p)) }
 {
+    let r = rows[p];
+    let x = cols[p];
     let mut low = 0u8;
     let mut next: Option<u8> = None;
     for (k, c) in cols.iter().enumerate() {
@@ -136,7 +132,7 @@ fn average_to(rows: &[u8], cols: &mut [u8], p: usize, wanted: u8)
     requires p_lt_n { p < length rows.now }
     ensures { cols.new ≡ average_to rows.now p wanted cols.old }
 {
-    let room = room_of(rows, cols, rows[p], cols[p]);
+    let room = room_of(rows, cols, p);
     cols[p] = wanted.min(room.high).max(room.low);
 }
 
@@ -146,11 +142,7 @@ fn sum_of(nodes: &[u8], cols: &[u8]) -> u32
     requires inside { Inside (length cols.now) nodes.now × Inside 144 cols.now }
     ensures { (result ≡ total (columns_of cols.now nodes.now)) × (result ≤ 144 * length nodes.now) }
 {
-    let mut sum = 0u32;
-    for q in nodes {
-        sum += cols[*q as usize] as u32;
-    }
-    sum
+    nodes.iter().map(|q| cols[*q as usize] as u32).sum()
 }
 
 // The mean column of the incidents of node p.
@@ -182,11 +174,7 @@ fn smallest_end(nodes: &[u8], cols: &[u8], most: u8) -> u8
     requires { Inside (length cols.now) nodes.now }
     ensures { result ≡ smallest most (columns_of cols.now nodes.now) }
 {
-    let mut least = most;
-    for q in nodes {
-        least = least.min(cols[*q as usize]);
-    }
-    least
+    nodes.iter().map(|q| cols[*q as usize]).fold(most, u8::min)
 }
 
 // The largest of the columns of these nodes. (No twin of smallest_end: that one begins at a bound.)
@@ -194,11 +182,7 @@ fn largest_end(nodes: &[u8], cols: &[u8]) -> u8
     requires { Inside (length cols.now) nodes.now }
     ensures { result ≡ largest (columns_of cols.now nodes.now) }
 {
-    let mut most = 0u8;
-    for q in nodes {
-        most = most.max(cols[*q as usize]);
-    }
-    most
+    nodes.iter().map(|q| cols[*q as usize]).max().unwrap_or(0)
 }
 
 // Where a box at pos goes whose incidents have columns from low to high.
@@ -262,6 +246,7 @@ fn round(leads: &Leads, rows: &[u8], cols: &mut [u8])
 }
 
 // Module 7: the columns of the boxes, from their rows and, in cols, their first columns.
+#[inline(never)]
 pub fn columns(leads: &Leads, rows: &[u8], cols: &mut [u8])
     requires rows { (length rows.now ≡ length leads.now) × Inside 48 rows.now }
     requires first { FirstColumns (length leads.now) cols.old }

@@ -4,9 +4,10 @@ ghost use Rattle.grid.specs.Heights.{reached_from, lowered, fresh, start, height
 ghost use Rattle.grid.specs.code.Walk.{signed_by, rows_of, reached_in, raised, AllNear, IsLeast};
 
 use crate::leads::Leads;
+use tables::Table;
 
 // A node on the path, its row, and the place where it looks next among those that it leads to: sources first, then sinks.
-#[derive(Clone, Copy)]
+#[derive(Clone, Copy, Default)]
 pub struct Frame {
     pub node: u8,
     pub row: i8,
@@ -21,7 +22,7 @@ fn row_by(up: bool, row: i8) -> i8
     if up { row - 1 } else { row + 1 }
 }
 
-// The walk from p, to its end: the rows that it gives. The path is the first depth frames (a table has no way to take its last one away); one step: its last node looks at the next that it leads to, or leaves the path where there is none.
+// The walk from p, to its end: the rows that it gives. One step: the last node of the path goes to the next that it leads to and that has no row, or leaves the path where there is none.
 fn walk_from(leads: &Leads, p: u8, rows: &mut [Option<i8>])
     requires few { length leads.now ≤ 48 }
     requires p_lt_n { p < length leads.now }
@@ -29,35 +30,31 @@ fn walk_from(leads: &Leads, p: u8, rows: &mut [Option<i8>])
     ensures { reached_in (length leads.now) rows.new ≡ reached_from leads.now p }
 {
     rows[p as usize] = Some(0);
-    let mut frames = [Frame {
+    let mut path: Table<Frame, 48> = Table::empty(Frame::default());
+    path.push(Frame {
         node: p,
         row: 0,
         at: 0,
-    }; 48];
-    let mut depth = 1usize;
-    while 0 < depth {
-        let top = depth - 1;
-        let f = frames[top];
+    });
+    while let Some(f) = path.pop() {
         let node = f.node as usize;
         let nodes = leads.incidents(node);
-        if nodes.len() <= f.at as usize {
-            depth = top;
+        let mut rest = f.at as usize..nodes.len();
+        let Some(at) = rest.find(|k| rows[nodes[*k] as usize].is_none()) else {
             continue;
-        }
-        frames[top] = Frame { at: f.at + 1, ..f };
-        let next = nodes[f.at as usize];
-        if rows[next as usize].is_some() {
-            continue;
-        }
-        let up = (f.at as usize) < leads.sources(node);
-        let row = row_by(up, f.row);
+        };
+        path.push(Frame {
+            at: at as u8 + 1,
+            ..f
+        });
+        let next = nodes[at];
+        let row = row_by(at < leads.sources(node), f.row);
         rows[next as usize] = Some(row);
-        frames[depth] = Frame {
+        path.push(Frame {
             node: next,
             row,
             at: 0,
-        };
-        depth += 1;
+        });
     }
 }
 
@@ -106,6 +103,7 @@ fn turn(leads: &Leads, p: u8, rows: &mut [Option<u8>])
 }
 
 // Module 6: the heights of the nodes.
+#[inline(never)]
 pub fn heights(leads: &Leads) -> [u8; 48]
     ensures { result ≡ heights leads.now ++ replicate (48 - length leads.now) 0 }
 {

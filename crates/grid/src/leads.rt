@@ -1,19 +1,20 @@
 // Where the sources and the sinks of each node lead, for the stages that go through them node by node.
 ghost use Rattle.std.specs.Prelude.{◌≡◌, ◌+◌, ◌≤◌, ◌<◌, length};
-ghost use Rattle.std.proofs.lemmas.List.Edits.{sets};
 ghost use Rattle.graph.specs.Ends.{targets_of, shape_from, Linked};
 ghost use Rattle.graph.specs.Shape.{incidents_at};
 ghost use Rattle.grid.specs.Columns.{incidents};
 ghost use Rattle.grid.specs.code.Arrays.{Inside};
+ghost use Rattle.grid.specs.code.Leads.{with_all};
 
 use graph::{Ends, Lead};
 use std::marker::Model;
+use tables::Table;
 
 // The sources of node p stand from bounds[2 p] up to bounds[2 p + 1], its sinks from there up to bounds[2 p + 2]. A contract sees the shape that this holds.
 #[derive(Drop)]
 pub struct Leads {
     nodes: usize,
-    to: [u8; 176],
+    to: Table<u8, 176>,
     bounds: [u8; 97],
 }
 
@@ -23,9 +24,9 @@ impl Model for Leads {
 
     ghost Value = { Shape };
 
-    ghost view = { λ l. shape_in l.nodes l.to l.bounds };
+    ghost view = { λ l. shape_in l.nodes l.to.items l.bounds };
 
-    ghost invariant = { λ l. Led l.nodes l.to l.bounds };
+    ghost invariant = { λ l. Led l.nodes l.to.items l.bounds };
 }
 
 impl Leads {
@@ -46,7 +47,7 @@ impl Leads {
         let bounds = &self.bounds;
         let from = bounds[2 * p] as usize;
         let end = bounds[2 * p + 2] as usize;
-        &self.to[from..end]
+        &self.to.items[from..end]
     }
 
     // How many of them are sources.
@@ -59,35 +60,31 @@ impl Leads {
     }
 }
 
-// The ends of node p, put from k on. Answers where they end.
-fn put_ends(leads: &[Lead], p: u8, to: &mut [u8; 176], k: usize) -> usize
-    requires { k + length (targets_of p leads.now) ≤ 176 }
-    ensures to { to.new ≡ sets to.old k (targets_of p leads.now) }
-    ensures end { result ≡ k + length (targets_of p leads.now) }
+// The ends of node p are put into the table.
+fn put_ends(leads: &[Lead], p: u8, to: &mut Table<u8, 176>)
+    requires { to.old.count + length (targets_of p leads.now) ≤ 176 }
+    ensures { to.new ≡ with_all to.old (targets_of p leads.now) }
 {
-    let mut end = k;
     for l in leads {
         if l.owner == p {
-            to[end] = l.to;
-            end += 1;
+            to.push(l.to);
         }
     }
-    end
 }
 
 // The sources and the sinks of n nodes.
+#[inline(never)]
 pub fn leads_of(sources: &Ends, sinks: &Ends, n: usize) -> Leads
     requires { Linked n sources.now × Linked n sinks.now }
     ensures { result ≡ shape_from n sources.now sinks.now }
 {
-    let mut to = [0u8; 176];
+    let mut to = Table::empty(0u8);
     let mut bounds = [0u8; 97];
-    let mut end = 0;
     for p in 0..n {
-        let mid = put_ends(sources.as_slice(), p as u8, &mut to, end);
-        bounds[2 * p + 1] = mid as u8;
-        end = put_ends(sinks.as_slice(), p as u8, &mut to, mid);
-        bounds[2 * p + 2] = end as u8;
+        put_ends(sources.as_slice(), p as u8, &mut to);
+        bounds[2 * p + 1] = to.count as u8;
+        put_ends(sinks.as_slice(), p as u8, &mut to);
+        bounds[2 * p + 2] = to.count as u8;
     }
     Leads {
         nodes: n,

@@ -1,8 +1,9 @@
 // Modules 6, 7 and 8 of document 01: heights, columns, boxes, and the sheet of a chart.
 #![tactic(auto)]
 
-ghost use Rattle.std.specs.Prelude.{◌≡◌, ◌&&◌, take, replicate};
+ghost use Rattle.std.specs.Prelude.{◌≡◌, ◌&&◌, take};
 ghost use Rattle.std.specs.Option.{unwrap_or};
+ghost use Rattle.tables.specs.Tables.{empty};
 ghost use Rattle.graph.specs.code.Tables.{graph_of};
 ghost use Rattle.graph.specs.Ends.{ends_in};
 ghost use Rattle.order.specs.Ordered.{columns_in};
@@ -17,9 +18,11 @@ ghost use Rattle.grid.specs.Labelled.{labelled, label_place_of};
 
 use chart::Setting;
 use graph::Tables;
+use order::Columns;
 pub use placing::cells;
 pub use record::{box_of, no_sheet, sound};
 use refusals::Refusal;
+use tables::Table;
 
 mod columns;
 mod heights;
@@ -99,17 +102,17 @@ pub struct LabelPlace {
 }
 
 // The sheet of a cut graph with these first columns.
-fn lay_out(g: &Tables, first: &[u8; 48], x: u32, y: u32) -> SheetRecord
+fn lay_out(g: &Tables, first: &Columns, x: u32, y: u32) -> SheetRecord
     requires seated { Seated g.now }
-    requires first_columns { FirstColumns g.now.n (take g.now.n first.now) }
-    ensures { result ≡ record_of (sheet (graph_of g.now) g.now.cuts (take g.now.n first.now)) x y }
+    requires first_columns { FirstColumns g.now.n (take g.now.n first.now.items) }
+    ensures { result ≡ record_of (sheet (graph_of g.now) g.now.cuts (take g.now.n first.now.items)) x y }
 {
     let n = g.n;
     let sources = graph::ends_of(g.sources);
     let sinks = graph::ends_of(g.sinks);
     let leads = leads::leads_of(&sources, &sinks, n);
     let rows = heights::heights(&leads);
-    let mut cols = *first;
+    let mut cols = first.items;
     columns::columns(&leads, &rows[..n], &mut cols[..n]);
     render_grid::laid(g, &rows, &cols, x, y)
 }
@@ -129,19 +132,19 @@ fn fits(s: &SheetRecord, x: u32, y: u32) -> bool
 }
 
 // The first columns of a graph.
-fn first_in(g: &Tables) -> [u8; 48]
-    ensures { result ≡ unwrap_or (columns_in g.now.n (ends_in g.now.sources) (ends_in g.now.sinks)) (replicate 48 0) }
+fn first_in(g: &Tables) -> Columns
+    ensures { result ≡ unwrap_or (columns_in g.now.n (ends_in g.now.sources) (ends_in g.now.sinks)) (empty 48 0) }
 {
     let sources = graph::ends_of(g.sources);
     let sinks = graph::ends_of(g.sinks);
-    order::order_of(&sources, &sinks, g.n).unwrap_or([0; 48])
+    order::order_of(&sources, &sinks, g.n).unwrap_or(Table::empty(0))
 }
 
 // The sheet of a cut graph with these first columns, at an origin, or 14.
-fn sheet_of(g: &Tables, first: &[u8; 48], x: u32, y: u32) -> Result<SheetRecord, Refusal>
+fn sheet_of(g: &Tables, first: &Columns, x: u32, y: u32) -> Result<SheetRecord, Refusal>
     requires seated { Seated g.now }
-    requires first_columns { FirstColumns g.now.n (take g.now.n first.now) }
-    ensures { result ≡ fitted_of (record_of (sheet (graph_of g.now) g.now.cuts (take g.now.n first.now)) x y) }
+    requires first_columns { FirstColumns g.now.n (take g.now.n first.now.items) }
+    ensures { result ≡ fitted_of (record_of (sheet (graph_of g.now) g.now.cuts (take g.now.n first.now.items)) x y) }
 {
     let s = lay_out(g, first, x, y);
     if !fits(&s, x, y) {
@@ -150,13 +153,15 @@ fn sheet_of(g: &Tables, first: &[u8; 48], x: u32, y: u32) -> Result<SheetRecord,
     Ok(s)
 }
 
-// The sheet of a chart at the origin x y, or the first refusal of 1 to 14. (Its phases are called here and by label_place, and so have frames of their own.)
+// The sheet of a chart at the origin x y, or the first refusal of 1 to 14. (For the unit's stack each phase has a frame of its own, and
+// what it answers is taken by reference: `?` would copy the graph, 1.7 KB, twice.)
 pub fn sheet(chart: &[u8], x: u32, y: u32, setting: Setting) -> Result<SheetRecord, Refusal>
     ensures { IsSheet setting chart.now x y result }
 {
-    let g = graph::graph(chart, setting)?;
-    let first = first_in(&g);
-    sheet_of(&g, &first, x, y)
+    match &graph::graph(chart, setting) {
+        Ok(g) => sheet_of(g, &first_in(g), x, y),
+        Err(why) => Err(*why),
+    }
 }
 
 // Label i of box k of the chart's sheet, or the first refusal of 1 to 15; the chart is laid out anew.
@@ -170,12 +175,20 @@ pub fn label_place(
 ) -> Result<LabelPlace, Refusal>
     ensures { result ≡ label_place_of (labelled setting chart.now x y k i) }
 {
-    let g = graph::graph(chart, setting)?;
-    let first = first_in(&g);
-    let laid = sheet_of(&g, &first, x, y)?;
+    let graphed = graph::graph(chart, setting);
+    let g = match &graphed {
+        Ok(g) => g,
+        Err(why) => return Err(*why),
+    };
+    let first = first_in(g);
+    let sheet = sheet_of(g, &first, x, y);
+    let laid = match &sheet {
+        Ok(laid) => laid,
+        Err(why) => return Err(*why),
+    };
     if g.n <= k {
         return Err(Refusal::NotThere);
     }
     let b = laid.boxes[k];
-    label::label_at(&g, k, b.x, b.y, i).ok_or(Refusal::NotThere)
+    label::label_at(g, k, b.x, b.y, i).ok_or(Refusal::NotThere)
 }

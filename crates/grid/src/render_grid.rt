@@ -3,14 +3,16 @@ ghost use Rattle.std.specs.Prelude.{◌≡◌, ℕ, ◌+◌, ◌<◌, ◌≤◌,
 ghost use Rattle.laws.specs.Lists.{All, padded};
 ghost use Rattle.laws.specs.Each.{each};
 ghost use Rattle.graph.specs.Graph.{node_at};
-ghost use Rattle.graph.specs.code.Tables.{owned, items_of, mark_of, name_line, graph_of, Aimed};
+ghost use Rattle.graph.specs.code.Tables.{items_of, mark_of, name_line, graph_of, Aimed};
 ghost use Rattle.grid.specs.Record.{no_box};
 ghost use Rattle.grid.specs.RenderGrid.{begins, extent as extent_of, owner_in, sheet_of};
-ghost use Rattle.grid.specs.Curves.{output_at, first_to, output_for, record_of};
+ghost use Rattle.grid.specs.Curves.{record_of};
 ghost use Rattle.grid.specs.code.Rendered.{Seated, Modest, render_of};
-ghost use Rattle.grid.specs.code.Laid.{Bounded, line_of, size_of, gap_of, begins_to, no_sides, sized_in, sides_in, placed_at, moved as moved_to, Near, Low, found_of, laid_outputs, inputs_in, outputs_in, no_curves, curves_at};
+ghost use Rattle.grid.specs.code.Row.{end_for, ends_left};
+ghost use Rattle.grid.specs.code.Laid.{Bounded, line_of, size_of, gap_of, begins_to, no_sides, sized_in, sides_in, placed_at, moved as moved_to, Near, inputs_in, outputs_in, no_curves, curves_at};
 
 use crate::lists::largest_of;
+use crate::render_node::row::{End, Laid};
 use crate::render_node::{Run, Sides, node_of};
 use crate::{BoxRecord, Curve, NO_OWNER, SheetRecord};
 use graph::{Items, Name, Tables};
@@ -58,13 +60,12 @@ impl Axis {
     fn extent(self, boxes: &[BoxRecord], c: u8) -> u32
         ensures { result ≡ extent_of (map (line_of self) boxes.now) (map (size_of self) boxes.now) c }
     {
-        let mut most = 0u32;
-        for b in boxes {
-            if self.line(b) == c {
-                most = most.max(self.size(b));
-            }
-        }
-        most
+        boxes
+            .iter()
+            .filter(|b| self.line(b) == c)
+            .map(|b| self.size(b))
+            .max()
+            .unwrap_or(0)
     }
 
     // Where each line begins, up to the last: PAD, and before it each line's size and the gap. The sheet's size along them.
@@ -152,55 +153,14 @@ fn moved(run: Run, b: &BoxRecord) -> Run
     }
 }
 
-// The output point of q's sink number m.
-fn marked_output(t: &Items, q: u8, m: u8, run: Run) -> Option<u32>
-    requires { Low run }
-    ensures { result ≡ found_of (output_at (laid_outputs run (owned q (items_of t.now))) m) }
+// Of a node's sinks, the one that a source of k belongs to: the marked one, whose number is held plus 1, or the first that leads to k. (A byte for each mark: it is fixed memory.)
+fn output_for(mut sinks: Laid<'_>, mark: u8, k: u8) -> Option<End>
+    ensures { result ≡ end_for (mark_of mark) k (ends_left sinks.entry) }
 {
-    let mut x = run.x;
-    let mut left = m;
-    let items = t.as_slice();
-    for e in items {
-        if e.owner == q {
-            let wx = 128 * (e.len as u32);
-            if left == 0 {
-                return Some(x + wx / 2);
-            }
-            left -= 1;
-            x += wx + run.gap;
-        }
+    match mark {
+        0 => sinks.find(|e| e.item.to == k),
+        m => sinks.nth(m as usize - 1),
     }
-    None
-}
-
-// The output point of q's first sink that leads to k.
-fn first_output(t: &Items, q: u8, k: u8, run: Run) -> Option<u32>
-    requires { Low run }
-    ensures { result ≡ found_of (first_to (laid_outputs run (owned q (items_of t.now))) k) }
-{
-    let mut x = run.x;
-    let items = t.as_slice();
-    for e in items {
-        if e.owner == q {
-            let wx = 128 * (e.len as u32);
-            if e.to == k {
-                return Some(x + wx / 2);
-            }
-            x += wx + run.gap;
-        }
-    }
-    None
-}
-
-// The output point of q that a source of k belongs to, whose mark is held plus 1. (A byte for each end: it is fixed memory.)
-fn output_for(t: &Items, q: u8, mark: u8, k: u8, run: Run) -> Option<u32>
-    requires { Low run }
-    ensures { result ≡ found_of (output_for (mark_of mark) (laid_outputs run (owned q (items_of t.now))) k) }
-{
-    if mark == 0 {
-        return first_output(t, q, k, run);
-    }
-    marked_output(t, q, mark - 1, run)
 }
 
 // The curves of these boxes, which have these ends.
@@ -209,40 +169,36 @@ fn all_curves(
     sinks: &Items,
     sides: &[Sides],
     boxes: &[BoxRecord],
-) -> Table<Curve, 88>
+    all: &mut Table<Curve, 88>,
+)
     requires few { length boxes.now ≤ 48 }
     requires same { length sides.now ≡ length boxes.now }
     requires inputs { (k : ℕ) → k < length boxes.now → Near (get_or sides.now k no_sides).inputs (get_or boxes.now k no_box) }
     requires outputs { (k : ℕ) → k < length boxes.now → Near (get_or sides.now k no_sides).outputs (get_or boxes.now k no_box) }
     requires aimed { Aimed (length boxes.now) (items_of sources.now) }
-    ensures { result ≡ each no_curves (curves_at (items_of sources.now) (items_of sinks.now) (inputs_in sides.now boxes.now) (outputs_in sides.now boxes.now)) (length boxes.now) }
+    requires none { all.old ≡ no_curves }
+    ensures { all.new ≡ each no_curves (curves_at (items_of sources.now) (items_of sinks.now) (inputs_in sides.now boxes.now) (outputs_in sides.now boxes.now)) (length boxes.now) }
 {
-    let mut all = Table::empty(Curve::default());
-    let items = sources.as_slice();
     for (k, b) in boxes.iter().enumerate() {
         let into = moved(sides[k].inputs, b);
-        let mut x = into.x;
-        for e in items {
-            if e.owner as usize == k {
-                let wx = 128 * (e.len as u32);
-                let from = e.to as usize;
-                let run = moved(sides[from].outputs, &boxes[from]);
-                if let Some(x0) = output_for(sinks, e.to, e.mark, k as u8, run) {
-                    all.push(Curve {
-                        x0,
-                        y0: run.y,
-                        x1: x + wx / 2,
-                        y1: into.y,
-                    });
-                }
-                x += wx + into.gap;
+        for e in into.ends(sources, k as u8) {
+            let from = e.item.to as usize;
+            let run = moved(sides[from].outputs, &boxes[from]);
+            let ends = run.ends(sinks, e.item.to);
+            if let Some(output) = output_for(ends, e.item.mark, k as u8) {
+                all.push(Curve {
+                    x0: output.point,
+                    y0: run.y,
+                    x1: e.point,
+                    y1: into.y,
+                });
             }
         }
     }
-    all
 }
 
 // The sheet of the graph with these columns and rows, at an origin. (The numbers that are many stand in arrays that are lent, for the memory.)
+#[inline(never)]
 pub fn laid(g: &Tables, rows: &[u8; 48], cols: &[u8; 48], x: u32, y: u32) -> SheetRecord
     requires seated { Seated g.now }
     requires bounded { Bounded 47 rows.now g.now.n }
@@ -260,7 +216,8 @@ pub fn laid(g: &Tables, rows: &[u8; 48], cols: &[u8; 48], x: u32, y: u32) -> She
     let width = Axis::Across.lay(&boxes[..n], last_column, &mut xs);
     let height = Axis::Down.lay(&boxes[..n], last_row, &mut ys);
     place(&mut boxes[..n], &xs, &ys);
-    let drawn = all_curves(&g.sources, &g.sinks, &sides[..n], &boxes[..n]);
+    let mut drawn = Table::empty(Curve::default());
+    all_curves(&g.sources, &g.sinks, &sides[..n], &boxes[..n], &mut drawn);
     let curves = drawn.items;
     SheetRecord {
         width,

@@ -5,14 +5,14 @@ use native.Mathlib.Omega.{arith}
 use native.Mathlib.Numerals.{add-one}
 use native.Mathlib.Nat.{le_of_suc-le-suc, not-suc-le-zero}
 use mathlib.Core.Path.{◌≡◌, refl, ap, sym, ◌∙◌}
-use mathlib.Core.Bool.{Bool, true, false, cond, ◌&&◌, false≢true}
+use mathlib.Core.Bool.{Bool, true, false, ◌&&◌, false≢true}
 use mathlib.Core.List.{List, [], ◌∷◌, ◌++◌, map, append_assoc, append-nil}
-use lib.Dec.{eqb, leb}
+use lib.Dec.{eqb}
 use lib.ListN.{length, get_or, set, take, drop, replicate, length-append, length-map, drop_of_length-le}
 use lib.Seq.{get_or-set_same, get_or-set_other, get_or-take, drop-cons, length-take-le, sets, sets-eq, take-append_seam}
-use borrow.Author.Tests.{le-leb, lt-leb, eq-eqb, ne_eqb, eqb-true}
+use borrow.Author.Tests.{eq-eqb, ne_eqb, eqb-true}
 use Rattle.laws.specs.Bytes.{all_of, same}
-use Rattle.laws.specs.Lists.{All, one, tabulate, keep, owned_by, joined, flat, padded, capped, stack_of}
+use Rattle.laws.specs.Lists.{All, one, tabulate, keep, owned_by, joined, flat, padded, stack_of}
 
 -- a count down is one more than the next
 pub one_more : {A : Type 0} (f : ℕ → A) (left : ℕ) → 0 < left → f left ≡ f (suc (left - 1))
@@ -204,19 +204,6 @@ get_d_padded (suc m) z [] (suc i) d h = get_d_padded m z [] i d (le_of_suc-le-su
 get_d_padded (suc m) z (x ∷ xs) zero d h = refl
 get_d_padded (suc m) z (x ∷ xs) (suc i) d h = get_d_padded m z xs i d (le_of_suc-le-suc h)
 
-pub capped-room : (m k : ℕ) → k ≤ m → capped m k ≡ k
-capped-room m k h = rw (le-leb k m h)
-
-pub capped-full : (m k : ℕ) → m < k → capped m k ≡ m + 1
-capped-full m k h = rw (lt-leb k m h)
-
-pub capped-past : (m k : ℕ) → m ≤ k → m ≤ capped m k
-capped-past m k h = go (leb k m)
-  where
-    go : (b : Bool) → m ≤ cond b k (m + 1)
-    go true = h
-    go false = omega arith
-
 -- ---- a path in an array
 -- a store past the first d
 pub stack_set : {A : Type 0} (z : A) (fs : List A) (i : ℕ) (x : A) (d : ℕ) → d ≤ i → stack_of z (set fs i x) d ≡ stack_of z fs d
@@ -258,15 +245,6 @@ drop-up {A} d n xs l k h =
 
 pub drop_past : {A : Type 0} (n : ℕ) (xs : List A) → n ≤ length xs → (k : ℕ) → n ≤ k → drop k (take n xs) ≡ []
 drop_past n xs l k h = let m : length (take n xs) ≤ k = omega (arith, length-take-le n xs l) in drop_of_length-le (take n xs) m
-
--- and those that count k down from n
-pub drop-down : {A : Type 0} (d : A) (n : ℕ) (xs : List A) → n ≤ length xs → (k : ℕ) → 0 < k → k ≤ n → drop (k - 1) (take n xs) ≡ get_or xs (k - 1) d ∷ drop k (take n xs)
-drop-down d n xs l k z h =
-    let e : k - 1 + 1 ≡ k = omega arith in
-    drop-up d n xs l (k - 1) (omega arith) ∙ ap (λ (i : ℕ). get_or xs (k - 1) d ∷ drop i (take n xs)) e
-
-pub drop-end : {A : Type 0} (n : ℕ) (xs : List A) → n ≤ length xs → drop n (take n xs) ≡ []
-drop-end n xs l = drop_past n xs l n (omega arith)
 
 -- ---- an array of one value
 pub set-replicate : {A : Type 0} (m p : ℕ) (a : A) → set (replicate m a) p a ≡ replicate m a

@@ -1,6 +1,6 @@
 -- Lists: each of them, whether and where a number is in one, a table of a function, the records that a node owns, an array that holds a list, a path in an array.
 -- Assumes nothing.
-use Rattle.std.specs.Prelude.{ℕ, zero, suc, ◌+◌, Bool, true, false, cond, ◌||◌, List, [], ◌∷◌, ◌++◌, map, eqb, leb, get_or}
+use Rattle.std.specs.Prelude.{ℕ, zero, suc, Bool, true, false, cond, ◌||◌, List, [], ◌∷◌, ◌++◌, map, eqb, get_or}
 
 -- P holds of each of the list
 abbrev pub All : {A : Type 0} → (A → Type 0) → List A → Type 0
@@ -50,10 +50,6 @@ abbrev pub padded : {A : Type 0} → ℕ → A → List A → List A
 padded zero z xs = []
 padded (suc m) z [] = z ∷ padded m z []
 padded (suc m) z (x ∷ xs) = x ∷ padded m z xs
-
--- a count that says 'more than m' by m + 1
-abbrev pub capped : ℕ → ℕ → ℕ
-capped m k = cond (leb k m) k (m + 1)
 
 -- the first d of an array, the last first
 abbrev pub stack_of : {A : Type 0} → A → List A → ℕ → List A

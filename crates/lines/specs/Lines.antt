@@ -3,6 +3,8 @@
 use Rattle.std.specs.Prelude.{ℕ, zero, suc, ◌+◌, ◌-◌, ◌*◌, Bool, false, cond, List, [], ◌∷◌, length, eqb, ltb, get_or, set, take, drop}
 use Rattle.std.specs.List.{position_or_len}
 use Rattle.laws.specs.Each.{each}
+use Rattle.chart.specs.declared.Setting.{Setting}
+use Rattle.chart.specs.declared.Setting.TheVariants.{Default, Strict}
 use Rattle.lines.specs.declared.Iter.{Iter}
 
 -- a digit's value, 0 for any other byte
@@ -34,6 +36,10 @@ lines_left it = lines_of it.rest.now
 unfoldable pub is_default : List ℕ → Bool
 is_default [] = false
 is_default (b ∷ s) = eqb b 68
+
+-- the setting of the line's chart: the default one after a D, else the strict one
+abbrev pub setting_of : List ℕ → Setting
+setting_of s = cond (is_default s) Default Strict
 
 -- the line without a D at its start
 abbrev pub digits_of : List ℕ → List ℕ

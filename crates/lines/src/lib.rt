@@ -1,9 +1,22 @@
-// Charts written in hexadecimal, one on each line, in the default setting after a `D`: what the programs that run a list of charts read.
+// What the programs read: charts written in hexadecimal, one on each line, in the default setting after a `D`; or one chart as it is.
 #![tactic(auto)]
 
-ghost use Rattle.std.specs.Prelude.{min, ◌/◌, ◌≤◌, ◌≡◌, length};
+ghost use Rattle.std.specs.Prelude.{min, ℕ, List, Option, ◌/◌, ◌≤◌, ◌≡◌, ⊤, length, take, vec_items, OnOk, IfOk, IfSome};
+ghost use Rattle.std.specs.Io.{StartsWith};
 ghost use Rattle.std.specs.Iterator.{YieldsFirstRef, item_count};
-ghost use Rattle.lines.specs.Lines.{digit_of, line_of, lines_of, lines_left, is_default, digits_of, decoded};
+ghost use Rattle.std.specs.List.{FoldsTo};
+ghost use Rattle.lines.specs.Lines.{digit_of, line_of, lines_of, lines_left, is_default, setting_of, digits_of, decoded};
+
+use chart::Setting;
+use std::alloc::Allocator;
+use std::io;
+use std::io::{Read, Write};
+
+// How many bytes of standard input a program that runs a list of charts reads.
+pub const ROOM: u64 = 1048576;
+
+// How many bytes of standard input a program that runs one chart reads.
+const CHART_ROOM: u64 = 8192;
 
 // 1,048,576 zeros: room for a list of charts. The `ensures` gives only the length, which lending the array as a slice needs.
 pub fn space() -> [u8; 1048576]
@@ -60,6 +73,16 @@ pub fn is_default(line: &[u8]) -> bool
     line.starts_with(b"D")
 }
 
+// The setting of a line's chart.
+pub fn setting_of(line: &[u8]) -> Setting
+    ensures { result ≡ setting_of line.now }
+{
+    if is_default(line) {
+        return Setting::Default;
+    }
+    Setting::Strict
+}
+
 // A line's hexadecimal digits: what follows the `D`, or the whole line.
 pub fn digits(line: &[u8]) -> &[u8]
     ensures { result.now ≡ digits_of line.now }
@@ -89,4 +112,54 @@ pub fn decode(text: &[u8], out: &mut [u8]) -> usize
         out[k] = 16 * digit(text[2 * k]) + digit(text[2 * k + 1]);
     }
     n
+}
+
+// A program that prints something of each line of its input.
+pub trait Program {
+    // What it may print of a line, by the bytes that the writer holds before it and after it, where they are known; anything, unless it says more.
+    ghost says: { Option (List ℕ) → List ℕ → Option (List ℕ) → Type 0 } = { λ old line new. ⊤ };
+
+    // Prints what there is to say of a line.
+    fn print<W: Write>(out: &mut W, line: &[u8]) -> io::Result<()>
+        ensures { OnOk result (says (W.contents out.old) line.now (W.contents out.new)) };
+}
+
+// Hands each line of the text to the program, once and in order.
+fn print_lines<P: Program, W: Write>(out: &mut W, text: &[u8]) -> io::Result<()>
+    ensures { OnOk result (FoldsTo P.says (W.contents out.old) (lines_of text.now) (W.contents out.new)) }
+{
+    for line in lines(text) {
+        P::print(out, line)?;
+    }
+    Ok(())
+}
+
+// Reads `room` bytes, or as many as there are, and hands each of their lines to the program, once and in order.
+pub fn run<P: Program, R: Read + Drop, W: Write, A: Allocator>(
+    reader: R,
+    room: u64,
+    out: &mut W,
+    alloc: A,
+) -> io::Result<()>
+    ensures { OnOk result ((text : List ℕ) × IfSome (R.remaining reader) (λ left. text ≡ take room left) × FoldsTo P.says (W.contents out.old) (lines_of text) (W.contents out.new)) }
+{
+    let mut text = Vec::new(alloc);
+    reader.take(room).read_to_end(&mut text)?;
+    print_lines::<P, W>(out, &text)
+}
+
+// A chart, as it is and not in hexadecimal: the first 8,192 bytes of what is read; none where reading fails before the first byte.
+// (A board with nothing fitted sends no byte; a read that fails before the first byte is no board. Where one fails later, what came before it is judged.)
+pub fn read_chart<R: Read + Drop, A: Allocator>(
+    reader: R,
+    alloc: A,
+) -> io::Result<Option<Vec<u8, A>>>
+    ensures { IfOk result (λ read. IfSome read (λ chart. IfSome (R.remaining reader) (λ left. StartsWith (take 8192 left) (vec_items chart)))) }
+{
+    let mut chart = Vec::with_capacity(alloc, CHART_ROOM as usize)?;
+    let read = reader.take(CHART_ROOM).read_to_end(&mut chart);
+    if read.is_err() && chart.is_empty() {
+        return Ok(None);
+    }
+    Ok(Some(chart))
 }

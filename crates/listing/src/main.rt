@@ -4,19 +4,13 @@
 
 use chart::Setting;
 use std::io;
-use std::io::{BufWriter, Read, Write};
+use std::io::{BufWriter, Write};
 
-// How many bytes of standard input are read.
-const ROOM: u64 = 8192;
-
-// (A board with nothing fitted sends no byte; a read that fails before the first byte is no board. Where one fails later, what came before it is judged.)
 fn main(rt: HostRuntime) -> io::Result<()> {
-    let mut chart = Vec::with_capacity(rt.alloc(), ROOM as usize)?;
-    let read = rt.reader().take(ROOM).read_to_end(&mut chart);
-    if read.is_err() && chart.is_empty() {
+    let Some(chart) = lines::read_chart(rt.reader(), rt.alloc())? else {
         eprintln!(rt; "standard input can't be read")?;
         return Ok(());
-    }
+    };
     let mut out = BufWriter::new(rt.alloc(), io::writer(&rt))?;
     listings::print_listing(&mut out, chart.as_slice(), Setting::Strict)?;
     out.flush()

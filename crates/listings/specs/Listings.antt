@@ -4,7 +4,7 @@ use Rattle.std.specs.Prelude.{ℕ, ◌+◌, List, [], ◌∷◌, ◌++◌}
 use Rattle.std.specs.Fmt.{decimal}
 use lib.Chars.{codes}
 use Rattle.refusals.specs.declared.Numbers.{Numbers}
-use Rattle.refusals.specs.Refusals.{numbers_of, text_numbers_of}
+use Rattle.refusals.specs.Refusals.{numbers_of, text_numbers_of, refused_text}
 use Rattle.chart.specs.declared.Setting.{Setting}
 use Rattle.grid.specs.declared.BoxRecord.{BoxRecord}
 use Rattle.grid.specs.declared.SheetRecord.{SheetRecord}
@@ -44,7 +44,7 @@ text_line (b ∷ t) = codes "path" ++ (32 ∷ b ∷ t) ++ (10 ∷ [])
 
 -- 'Refused: `refused` and both numbers'
 abbrev pub refused_line : Numbers → List ℕ
-refused_line n = line (codes "refused") (n.first ∷ n.second ∷ [])
+refused_line n = refused_text n ++ (10 ∷ [])
 
 -- the path of a sheet; no chart's sheet is refused here (`LaidOut.sound`), but one that a caller built may be
 abbrev pub answer_line : Answer → List ℕ

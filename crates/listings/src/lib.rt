@@ -9,16 +9,17 @@ ghost use Rattle.listings.specs.Listings.{
   box_lines,
   path_line,
   text_line,
-  refused_line,
   sheet_lines,
   listing_of,
 };
 
 use chart::Setting;
 use grid::{BoxRecord, SheetRecord};
-use refusals::Numbers;
 use std::io;
 use std::io::Write;
+
+// How many labels a box has at most: a chart has at most 64 sources and sinks, and a box 4 lines.
+pub const LABELS: usize = 68;
 
 // Room for the text of any sheet: a sound one's has at most 9,887 bytes.
 const ROOM: usize = 9887;
@@ -64,12 +65,6 @@ fn print_text<W: Write>(out: &mut W, text: &[u8]) -> io::Result<()>
     out.write_all(b"\n")
 }
 
-fn print_refusal<W: Write>(out: &mut W, n: Numbers) -> io::Result<()>
-    ensures { OnOk result (Appends (W.contents out.old) (W.contents out.new) (refused_line n)) }
-{
-    writeln!(out, "refused {} {}", n.first, n.second)
-}
-
 // The path of a sound sheet; of any other, that it is refused.
 fn print_path<W: Write>(out: &mut W, s: &SheetRecord) -> io::Result<()>
     ensures { OnOk result (Appends (W.contents out.old) (W.contents out.new) (path_line s.now)) }
@@ -77,7 +72,7 @@ fn print_path<W: Write>(out: &mut W, s: &SheetRecord) -> io::Result<()>
     let mut text = [0; ROOM];
     match path::write_sheet(s, &mut text) {
         Ok(n) => print_text(out, &text[..n]),
-        Err(why) => print_refusal(out, why.numbers()),
+        Err(why) => writeln!(out, "{}", why.numbers()),
     }
 }
 
@@ -98,6 +93,6 @@ pub fn print_listing<W: Write>(out: &mut W, chart: &[u8], setting: Setting) -> i
 {
     match grid::sheet(chart, 0, 0, setting) {
         Ok(s) => print_sheet(out, &s),
-        Err(why) => print_refusal(out, why.numbers()),
+        Err(why) => writeln!(out, "{}", why.numbers()),
     }
 }

@@ -3,11 +3,10 @@
 use Prim.Native.Nat.{ℕ}
 use mathlib.Core.Path.{◌≡◌, sym, ap, ◌∙◌, subst}
 use mathlib.Core.List.{List}
-use Rattle.std.specs.Prelude.{Result, Ok, Err}
+use Rattle.std.specs.Prelude.{Result, Ok}
 use Rattle.refusals.specs.declared.Refusal.{Refusal}
 use Rattle.chart.specs.declared.Setting.{Setting}
 use Rattle.grid.specs.declared.SheetRecord.{SheetRecord}
-use Rattle.grid.specs.Sheeted.{sheeted, answer_of}
 use Rattle.grid.specs.LaidOut.{IsSheet}
 use Rattle.path.proofs.TextSizes.{own-text-most}
 use Rattle.margalhosa.specs.declared.SheetResult.{SheetResult}

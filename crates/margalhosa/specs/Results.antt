@@ -1,6 +1,6 @@
 -- What the functions for C answer, by what the operations of documents 01 and 02 do: its two numbers of the refusal, 0 0 where nothing is refused, and the value.
 -- Assumes nothing.
-use Rattle.std.specs.Prelude.{ℕ, ◌+◌, ◌≤◌, ◌≡◌, false, cond, List, [], ◌++◌, eqb, length, take, drop, Result, Ok, Err}
+use Rattle.std.specs.Prelude.{ℕ, ◌+◌, ◌≤◌, ◌≡◌, cond, List, [], ◌++◌, eqb, length, take, drop, Result, Ok, Err}
 use Rattle.std.specs.Float.{binary32}
 use Rattle.std.specs.Float.Ieee.{of_bits}
 use Rattle.chart.specs.declared.Setting.{Setting}
@@ -124,12 +124,13 @@ label_result (Ok l) = label_by (numbers 0 0) l
 label_result (Err why) = label_by (numbers_of why) (record { x = 0; y = 0; size = 0; width = 0 })
 
 abbrev pub part_by : Numbers → LabelSpan → PartResult
-part_by n l = record { refused = n.first; second = n.second; fixed = cond l.fixed 1 0; at = l.at; len = l.len }
+part_by n (LabelSpan.InChart at len) = record { refused = n.first; second = n.second; fixed = 0; at = at; len = len }
+part_by n (LabelSpan.InTable at len) = record { refused = n.first; second = n.second; fixed = 1; at = at; len = len }
 
 -- refused, the part is 'the empty one at the chart's start'
 abbrev pub part_result : Result LabelSpan Refusal → PartResult
 part_result (Ok l) = part_by (numbers 0 0) l
-part_result (Err why) = part_by (numbers_of why) (record { fixed = false; at = 0; len = 0 })
+part_result (Err why) = part_by (numbers_of why) (LabelSpan.InChart 0 0)
 
 -- what `margalhosa_label_part` promises: the part, and that it lies within the chart s or the table t
 pub record IsPartResult (s t : List ℕ) (l : Labelled) (r : PartResult) : Type 0 where

@@ -10,12 +10,12 @@ ghost use Rattle.path.specs.Reader.{read};
 ghost use Rattle.path.specs.Answers.{sheet_answer, count_of};
 ghost use Rattle.path.specs.Promises.{IsReading};
 ghost use Rattle.path.specs.Label.{placed_label_of};
-ghost use Rattle.margalhosa.specs.Results.{setting_of, sheet_by, IsSheetResult, no_pen, box_result, segment_by, segment_result, IsSegmentResult, IsTextResult, count_result, IsRewriteResult, label_result, IsPartResult, order_by, IsOrderResult};
+ghost use Rattle.margalhosa.specs.Results.{setting_of, IsSheetResult, box_result, segment_result, IsSegmentResult, IsTextResult, count_result, IsRewriteResult, label_result, IsPartResult, order_by, IsOrderResult};
 
 use chart::Setting;
 use grid::{BoxRecord, SheetRecord, no_sheet};
-use path::{Pen, Segment};
-use refusals::{Numbers, Refusal, TextRefusal};
+use path::{LabelSpan, Pen, Segment};
+use refusals::{Refusal, TextRefusal};
 use signal::{CYCLE, NoOrder, Nodes};
 use tables::Table;
 
@@ -30,7 +30,7 @@ pub struct SheetResult {
 
 // A box of a sheet; refused, every field of it is 0.
 #[repr(C)]
-#[derive(Clone, Copy)]
+#[derive(Clone, Copy, Default)]
 pub struct BoxResult {
     pub refused: u32,
     pub second: u32,
@@ -39,7 +39,7 @@ pub struct BoxResult {
 
 // A segment: its kind is 0 a move, 1 a line, 2 a cubic, 3 a close. A move or a line goes to `to`, a cubic goes there by its two controls; the other positions are 0.
 #[repr(C)]
-#[derive(Clone, Copy)]
+#[derive(Clone, Copy, Default)]
 pub struct SegmentResult {
     pub refused: u32,
     pub kind: u32,
@@ -51,7 +51,7 @@ pub struct SegmentResult {
 
 // How many bytes were written, or how many segments a text has; refused, 0.
 #[repr(C)]
-#[derive(Clone, Copy)]
+#[derive(Clone, Copy, Default)]
 pub struct CountResult {
     pub refused: u32,
     pub second: usize,
@@ -60,7 +60,7 @@ pub struct CountResult {
 
 // A label's place, size and width; refused, all of them 0.
 #[repr(C)]
-#[derive(Clone, Copy)]
+#[derive(Clone, Copy, Default)]
 pub struct LabelResult {
     pub refused: u32,
     pub second: u32,
@@ -72,7 +72,7 @@ pub struct LabelResult {
 
 // A label's text: the part of the chart, or where `fixed` is 1 of the table, that begins at `at` and has `len` bytes; refused, the empty one at the chart's start.
 #[repr(C)]
-#[derive(Clone, Copy)]
+#[derive(Clone, Copy, Default)]
 pub struct PartResult {
     pub refused: u32,
     pub second: u32,
@@ -102,10 +102,7 @@ fn first_of(why: Refusal) -> u32
 fn second_of(why: Refusal) -> u32
     ensures { result ≡ (numbers_of why).second }
 {
-    match why {
-        Refusal::Outside(target) => target as u32,
-        _ => 0,
-    }
+    why.numbers().second as u32
 }
 
 // The setting of a number: 0 is the default, any other is strict.
@@ -118,52 +115,34 @@ fn setting_of(number: u32) -> Setting
     Setting::Strict
 }
 
-// The position 0.0 0.0.
-fn no_pen() -> Pen
-    ensures { result ≡ no_pen }
-{
-    Pen { x: 0.0, y: 0.0 }
-}
-
-// No segment, with the two numbers of a refusal.
-fn no_segment(n: Numbers) -> SegmentResult
-    ensures { result ≡ segment_by n 0 no_pen no_pen no_pen }
-{
-    let none = no_pen();
-    SegmentResult {
-        refused: n.first as u32,
-        kind: 0,
-        second: n.second,
-        control0: none,
-        control1: none,
-        to: none,
-    }
-}
-
 // A segment, or its refusal.
 fn given(g: Result<Segment, TextRefusal>) -> SegmentResult
     ensures { result ≡ segment_result g }
 {
-    let none = no_segment(Numbers {
-        first: 0,
-        second: 0,
-    });
+    let none = SegmentResult::default();
     match g {
-        Ok(Segment::Move(p)) => SegmentResult { to: p, ..none },
-        Ok(Segment::Line(p)) => SegmentResult {
+        Ok(Segment::Move(to)) => SegmentResult { to, ..none },
+        Ok(Segment::Line(to)) => SegmentResult {
             kind: 1,
-            to: p,
+            to,
             ..none
         },
-        Ok(Segment::Cubic(a, b, p)) => SegmentResult {
+        Ok(Segment::Cubic(control0, control1, to)) => SegmentResult {
             kind: 2,
-            control0: a,
-            control1: b,
-            to: p,
+            control0,
+            control1,
+            to,
             ..none
         },
         Ok(Segment::Close) => SegmentResult { kind: 3, ..none },
-        Err(r) => no_segment(r.numbers()),
+        Err(r) => {
+            let n = r.numbers();
+            SegmentResult {
+                refused: n.first as u32,
+                second: n.second,
+                ..none
+            }
+        }
     }
 }
 
@@ -173,29 +152,17 @@ fn counted(c: Result<usize, TextRefusal>) -> CountResult
 {
     match c {
         Ok(count) => CountResult {
-            refused: 0,
-            second: 0,
             count,
+            ..CountResult::default()
         },
         Err(r) => {
             let n = r.numbers();
             CountResult {
                 refused: n.first as u32,
                 second: n.second,
-                count: 0,
+                ..CountResult::default()
             }
         }
-    }
-}
-
-// A sheet, with the two numbers of a refusal or 0 0.
-fn sheet_by(first: u32, second: u32, sheet: SheetRecord) -> SheetResult
-    ensures { result ≡ sheet_by (numbers first second) sheet }
-{
-    SheetResult {
-        refused: first,
-        second,
-        sheet,
     }
 }
 
@@ -205,8 +172,16 @@ pub extern "C" fn margalhosa_sheet(chart: &[u8], x: u32, y: u32, setting: u32) -
     ensures { IsSheetResult (setting_of setting) chart.now x y result }
 {
     match grid::sheet(chart, x, y, setting_of(setting)) {
-        Ok(sheet) => sheet_by(0, 0, sheet),
-        Err(why) => sheet_by(first_of(why), second_of(why), no_sheet()),
+        Ok(sheet) => SheetResult {
+            refused: 0,
+            second: 0,
+            sheet,
+        },
+        Err(why) => SheetResult {
+            refused: first_of(why),
+            second: second_of(why),
+            sheet: no_sheet(),
+        },
     }
 }
 
@@ -217,14 +192,13 @@ pub extern "C" fn margalhosa_box(sheet: SheetRecord, k: u32) -> BoxResult
 {
     match grid::box_of(&sheet, k as usize) {
         Ok(place) => BoxResult {
-            refused: 0,
-            second: 0,
             place,
+            ..BoxResult::default()
         },
         Err(why) => BoxResult {
             refused: first_of(why),
             second: second_of(why),
-            place: BoxRecord::default(),
+            ..BoxResult::default()
         },
     }
 }
@@ -268,20 +242,16 @@ pub extern "C" fn margalhosa_label_place(
         i as usize,
     ) {
         Ok(l) => LabelResult {
-            refused: 0,
-            second: 0,
             x: l.x,
             y: l.y,
             size: l.size,
             width: l.width,
+            ..LabelResult::default()
         },
         Err(why) => LabelResult {
             refused: first_of(why),
             second: second_of(why),
-            x: 0,
-            y: 0,
-            size: 0,
-            width: 0,
+            ..LabelResult::default()
         },
     }
 }
@@ -308,19 +278,21 @@ pub extern "C" fn margalhosa_label_part(
         k as usize,
         i as usize,
     ) {
-        Ok(l) => PartResult {
-            refused: 0,
-            second: 0,
-            fixed: l.fixed as u32,
-            at: l.at,
-            len: l.len,
+        Ok(LabelSpan::InChart { at, len }) => PartResult {
+            at,
+            len,
+            ..PartResult::default()
+        },
+        Ok(LabelSpan::InTable { at, len }) => PartResult {
+            fixed: 1,
+            at,
+            len,
+            ..PartResult::default()
         },
         Err(why) => PartResult {
             refused: first_of(why),
             second: second_of(why),
-            fixed: 0,
-            at: 0,
-            len: 0,
+            ..PartResult::default()
         },
     }
 }

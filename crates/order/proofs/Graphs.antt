@@ -1,14 +1,12 @@
 -- The first columns of a graph, from the ends of its nodes and from its tables.
 -- Assumes nothing.
-use Prim.Native.Nat.{ℕ, ◌-◌, ◌≤◌}
+use Prim.Native.Nat.{ℕ}
 use native.Mathlib.Omega.{arith}
 use mathlib.Core.Path.{◌≡◌, ap, sym, subst, ◌∙◌}
-use mathlib.Core.List.{List, ◌++◌}
-use lib.ListN.{length, take, replicate}
-use lib.Seq.{take_at}
+use mathlib.Core.List.{List}
+use lib.ListN.{length, take}
 use Rattle.std.specs.Prelude.{Some, Result, Ok, Err}
-use Rattle.laws.specs.Lists.{padded}
-use Rattle.laws.proofs.Lists.{padded-is, length-tabulate}
+use Rattle.laws.proofs.Lists.{take-padded, length-tabulate}
 use Rattle.tables.specs.declared.Table.{Table}
 use Rattle.refusals.specs.Refusals.{numbers_in}
 use Rattle.refusals.specs.declared.Refusal.{Refusal}
@@ -40,23 +38,22 @@ module _ (n : ℕ) (sources sinks : Ends) (l : EndsLinked n sources) (m : EndsLi
   once_in : EachOnce n (columns (shape_from n sources sinks))
   once_in = subst (λ (k : ℕ). EachOnce k (columns (shape_from n sources sinks))) (shape_size n sources sinks l m) (each-once (shape_from n sources sinks) (shape-aimed n sources sinks l m))
 
-  -- the whole array
-  whole_in : columns (shape_from n sources sinks) ++ replicate (48 - n) 0 ≡ padded 48 0 (columns (shape_from n sources sinks))
-  whole_in =
-      let cs = columns (shape_from n sources sinks) in
-      let few : length cs ≤ 48 = omega (arith, size_in, l.nodes) in
-      ap (λ (k : ℕ). cs ++ replicate (48 - k) 0) (sym size_in) ∙ sym (padded-is 48 0 cs few)
+  -- the table that holds them
+  items_in : take n (columns_held (columns (shape_from n sources sinks))).items ≡ columns (shape_from n sources sinks)
+  items_in = let cs = columns (shape_from n sources sinks) in ap (λ (k : ℕ). take k (columns_held cs).items) (sym size_in) ∙ take-padded 48 0 cs (omega (arith, size_in, l.nodes))
 
   -- what `order_of` answers, and that each node has a column of its own
-  pub columns_in_lem : columns_in n sources sinks ≡ Some (columns (shape_from n sources sinks) ++ replicate (48 - n) 0)
+  pub columns_in_lem : columns_in n sources sinks ≡ Some (columns_held (columns (shape_from n sources sinks)))
   unfolding columns_in
-  columns_in_lem = rw (linked_yes n sources l, linked_yes n sinks m, whole_in)
+  columns_in_lem = rw (linked_yes n sources l, linked_yes n sinks m)
 
-  pub columns-each : EachOnce n (take n (columns (shape_from n sources sinks) ++ replicate (48 - n) 0))
-  columns-each = rw (take_at (columns (shape_from n sources sinks)) (replicate (48 - n) 0) n size_in) once_in
-
-  pub columns-are : (cs : List ℕ) → cs ≡ columns (shape_from n sources sinks) ++ replicate (48 - n) 0 → IsColumns n sources sinks (Some cs)
-  columns-are cs e = record { whole = ap Some e ∙ sym columns_in_lem; each = λ ds h. let i : ds ≡ columns (shape_from n sources sinks) ++ replicate (48 - n) 0 = cc in rw i columns-each }
+  pub columns-are : (cs : Table ℕ 48) → cs ≡ columns_held (columns (shape_from n sources sinks)) → IsColumns n sources sinks (Some cs)
+  columns-are cs e =
+      record {
+        whole = ap Some e ∙ sym columns_in_lem;
+        count = λ ds h. let i : ds ≡ columns_held (columns (shape_from n sources sinks)) = cc in rw i size_in;
+        each = λ ds h. let i : ds ≡ columns_held (columns (shape_from n sources sinks)) = cc in rw (i, items_in) once_in;
+      }
 
 -- ---- from the tables
 module _ (t : Tables) (long : length t.sources.items ≡ 88) (long₂ : length t.sinks.items ≡ 88) (l : Linked t) where
@@ -68,9 +65,6 @@ module _ (t : Tables) (long : length t.sources.items ≡ 88) (long₂ : length t
 
   pub size : length (columns (shape_of (graph_of t))) ≡ t.n
   size = rw (← shape-held t) (size_in t.n (ends_in t.sources) (ends_in t.sinks) sources-linked sinks-linked)
-
-  pub whole : columns (shape_from t.n (ends_in t.sources) (ends_in t.sinks)) ++ replicate (48 - t.n) 0 ≡ padded 48 0 (columns (shape_of (graph_of t)))
-  whole = whole_in t.n (ends_in t.sources) (ends_in t.sinks) sources-linked sinks-linked ∙ ap (λ (g : Shape). padded 48 0 (columns g)) (shape-held t)
 
   pub once : EachOnce (length (columns (shape_of (graph_of t)))) (columns (shape_of (graph_of t)))
   once = rw (size, ← shape-held t) (once_in t.n (ends_in t.sources) (ends_in t.sinks) sources-linked sinks-linked)

@@ -60,4 +60,4 @@ module _ (n : ℕ) (e : Ends) where
 -- no columns where the ends are not linked
 pub columns-none : (n : ℕ) (sources sinks : Ends) → (linked_of n sources && linked_of n sinks) ≡ false → IsColumns n sources sinks None
 unfolding columns_in
-columns-none n sources sinks h = record { whole = rw h; each = λ cs e. absurd (cc) }
+columns-none n sources sinks h = record { whole = rw h; count = λ cs e. absurd (cc); each = λ cs e. absurd (cc) }

@@ -5,16 +5,17 @@ use Prim.Native.Nat.{ℕ, zero, suc, ◌+◌, ◌-◌, ◌*◌, ◌/◌, ◌≤�
 use native.Mathlib.Omega.{arith}
 use native.Mathlib.Numerals.{add-one}
 use mathlib.Core.Logic.{inl, inr}
-use mathlib.Core.Path.{◌≡◌, refl, ap, sym, ◌∙◌, subst}
+use mathlib.Core.Path.{◌≡◌, refl, ap, sym, ◌∙◌}
 use mathlib.Core.Bool.{Bool, true, false}
 use mathlib.Core.List.{List, [], ◌∷◌, ◌++◌, map, append_assoc, append-nil}
 use lib.Dec.{eqb, leb, ltb}
-use lib.ListN.{length, get_or, set, take, length-append, length-map}
+use lib.ListN.{length, get_or, set, take, drop, length-append, length-map}
 use lib.Seq.{take-suc, take-suc-set}
+use Rattle.std.proofs.lemmas.List.{drop_more}
 use borrow.Author.Tests.{eq-eqb, ne_eqb, lt-ltb}
 use Rattle.laws.proofs.Tests.{same?}
-use Rattle.laws.specs.Lists.{one, tabulate, keep, tally}
-use Rattle.laws.proofs.Lists.{length-tabulate, tabulate-snoc, owned-append, length-one, padded-set, take-padded}
+use Rattle.laws.specs.Lists.{one, tabulate, keep, tally, padded}
+use Rattle.laws.proofs.Lists.{length-tabulate, owned-append, length-one, padded-set, take-padded}
 use Rattle.tables.specs.declared.Table.{Table}
 use Rattle.tables.specs.Tables.{pushed_if}
 use Rattle.graph.specs.declared.Lead.{Lead}
@@ -50,9 +51,9 @@ module _ (p : ℕ) (es : List Lead) (k : ℕ) (h : k < length es) where
 pub held_list : (t : Table ℕ 88) (ts : List ℕ) → t ≡ held ts → length ts ≤ 88 → take t.count t.items ≡ ts
 held_list t ts e h = rw e (take-padded 88 0 ts h)
 
--- one target more
-pub held-one : (ts : List ℕ) (x : ℕ) (t u : Table ℕ 88) (r : Bool) → t ≡ held ts → length ts < 88 → r ≡ ltb t.count 88 → u ≡ pushed_if r t x → u ≡ held (ts ++ one x)
-held-one ts x t u r e h b w = rw (w, b, e, lt-ltb (length ts) 88 h) (cc (padded-set 88 0 ts x, length-one ts x))
+-- one item more of a table that holds a list
+pub held-one : (m : ℕ) (ts : List ℕ) (x : ℕ) (t u : Table ℕ m) (r : Bool) → t ≡ record { items = padded m 0 ts; count = length ts } → length ts < m → r ≡ ltb t.count m → u ≡ pushed_if r t x → u ≡ record { items = padded m 0 (ts ++ one x); count = length (ts ++ one x) }
+held-one m ts x t u r e h b w = rw (w, b, e, lt-ltb (length ts) m h) (cc (padded-set m 0 ts x, length-one ts x))
 
 length-keep : (b : Bool) (t : ℕ) (xs : List ℕ) → length (keep b t xs) ≡ tally b (length xs)
 length-keep true t xs = refl
@@ -109,47 +110,35 @@ pushed-one t u x r long room b w =
     rw (w, b, lt-ltb t.count 352 room)
     (record { list = ap (λ k. take k (set t.items t.count x)) (add-one t.count) ∙ take-suc-set t.items t.count x (omega arith); count = refl })
 
--- one code more of a table of codes
-pub pushed-next : (f : ℕ → ℕ) (p k x : ℕ) (t u v : Table ℕ 352) (r : Bool) → Pushed t u (tabulate f p k) → t.count + k < 352 → x ≡ f (p + k) → length u.items ≡ 352 → r ≡ ltb u.count 352 → v ≡ pushed_if r u x →
-    Pushed t v (tabulate f p (suc k))
-pushed-next f p k x t u v r a room e long b w =
-    let c : u.count < 352 = omega (arith, a.count, length-tabulate f p k) in
-    subst (Pushed t v) (ap (λ (y : ℕ). tabulate f p k ++ one y) e ∙ sym (tabulate-snoc f p k)) (pushed-then t u v (tabulate f p k) (one x) a (pushed-one u v x r long c b w))
+-- of ys, which are pushed on t, xs are left
+pub record Left (t u : Table ℕ 352) (ys xs : List ℕ) : Type 0 where
+  pub done : List ℕ
+  pub parts : ys ≡ done ++ xs
+  pub pushed : Pushed t u done
+
+pub left-next : (t u v : Table ℕ 352) (ys : List ℕ) (x y : ℕ) (xs : List ℕ) (r : Bool) → t.count + length ys ≤ 352 → Left t u ys (x ∷ xs) → y ≡ x → length u.items ≡ 352 → r ≡ ltb u.count 352 → v ≡ pushed_if r u y → Left t v ys xs
+left-next t u v ys x y xs r room l e long b w =
+    let few : u.count < 352 = omega (arith, l.pushed.count, ap (λ (z : List ℕ). length z) l.parts, length-append l.done (x ∷ xs)) in
+    record {
+      done = l.done ++ one x;
+      parts = l.parts ∙ sym (append_assoc l.done (one x) xs);
+      pushed = pushed-then t u v l.done (one x) l.pushed (pushed-one u v x r long few b (w ∙ ap (λ z. pushed_if r u z) e));
+    }
 
 -- ---- the codes of a list
-abbrev pub neighbour_code : List ℕ → ℕ → ℕ
-neighbour_code ts k = code_of (against (get_or ts (k - 1) 0) (get_or ts k 0))
+-- a window of two, and the neighbours past it
+two-first : (ts : List ℕ) → 2 ≤ length ts → map code_of (neighbours ts) ≡ code_of (against (get_or (take 2 ts) 0 0) (get_or (take 2 ts) 1 0)) ∷ map code_of (neighbours (drop 1 ts))
+two-first [] h = absurd (omega arith)
+two-first (x ∷ []) h = absurd (omega arith)
+two-first (x ∷ y ∷ ts) h = refl
 
-abbrev pub pair_code : ℕ → ℕ → List ℕ → ℕ → ℕ
-pair_code p turn ts k = code_of (reversed_if (leb turn k) p (get_or ts k 0))
+pub neighbours-next : (n : ℕ) (ts w us : List ℕ) → n ≡ 2 → n ≤ length ts → w ≡ take n ts → us ≡ drop 1 ts → map code_of (neighbours ts) ≡ code_of (against (get_or w 0 0) (get_or w 1 0)) ∷ map code_of (neighbours us)
+neighbours-next n ts w us e h f g = rw (g, f, e) (two-first ts (omega arith))
 
-pub neighbours-from : (ts : List ℕ) (i : ℕ) (rs : List ℕ) → ((j : ℕ) → j < length rs → get_or ts (suc i + j) 0 ≡ get_or rs j 0) →
-    tabulate (neighbour_code ts) (suc i) (length rs) ≡ map code_of (neighbours_from (get_or ts i 0) rs)
-neighbours-from ts i [] h = refl
-neighbours-from ts i (r ∷ rs) h =
-    let d : suc i ≡ suc i + 0 = omega arith in
-    let e : get_or ts (suc i) 0 ≡ r = ap (λ k. get_or ts k 0) d ∙ h 0 (omega arith) in
-    let b : suc i - 1 ≡ i = omega arith in
-    let s : (j : ℕ) → j < length rs → get_or ts (suc (suc i) + j) 0 ≡ get_or rs j 0 = λ j l. let z : suc (suc i) + j ≡ suc i + suc j = omega arith in ap (λ k. get_or ts k 0) z ∙ h (suc j) (omega arith) in
-    cc (ap (λ k. code_of (against (get_or ts k 0) (get_or ts (suc i) 0))) b, ap (λ q. code_of (against (get_or ts i 0) q)) e, neighbours-from ts (suc i) rs s ∙ ap (λ q. map code_of (neighbours_from q rs)) e)
-
-pub neighbours-are : (xs : List ℕ) → tabulate (neighbour_code xs) 1 (length xs - 1) ≡ map code_of (neighbours xs)
-neighbours-are [] = refl
-neighbours-are (x ∷ xs) =
-    let z : suc (length xs) - 1 ≡ length xs = omega arith in
-    ap (tabulate (neighbour_code (x ∷ xs)) 1) z ∙ neighbours-from (x ∷ xs) 0 xs (λ j l. let z : suc 0 + j ≡ suc j = omega arith in ap (λ k. get_or (x ∷ xs) k 0) z)
-
-pairs-from : (ts : List ℕ) (p turn i : ℕ) (qs : List ℕ) → ((j : ℕ) → j < length qs → get_or ts (i + j) 0 ≡ get_or qs j 0) →
-    tabulate (pair_code p turn ts) i (length qs) ≡ map code_of (with_from p turn i qs)
-pairs-from ts p turn i [] h = refl
-pairs-from ts p turn i (q ∷ qs) h =
-    let d : i ≡ i + 0 = omega arith in
-    let e : get_or ts i 0 ≡ q = ap (λ k. get_or ts k 0) d ∙ h 0 (omega arith) in
-    let s : (j : ℕ) → j < length qs → get_or ts (suc i + j) 0 ≡ get_or qs j 0 = λ j l. let z : suc i + j ≡ i + suc j = omega arith in ap (λ k. get_or ts k 0) z ∙ h (suc j) (omega arith) in
-    cc (ap (λ r. code_of (reversed_if (leb turn i) p r)) e, pairs-from ts p turn (suc i) qs s)
-
-pub pairs-are : (p turn : ℕ) (ts : List ℕ) → tabulate (pair_code p turn ts) 0 (length ts) ≡ map code_of (with_from p turn 0 ts)
-pairs-are p turn ts = pairs-from ts p turn 0 ts (λ j l. let z : 0 + j ≡ j = omega arith in ap (λ k. get_or ts k 0) z)
+-- the pairs from number k on
+pub pairs-next : (p turn k : ℕ) (ts : List ℕ) → k < length ts →
+    map code_of (with_from p turn k (drop k ts)) ≡ code_of (reversed_if (leb turn k) p (get_or ts k 0)) ∷ map code_of (with_from p turn (k + 1) (drop (k + 1) ts))
+pairs-next p turn k ts h = rw (drop_more ts k 0 h, add-one k)
 
 length_from : (q : ℕ) (xs : List ℕ) → length (neighbours_from q xs) ≡ length xs
 length_from q [] = refl

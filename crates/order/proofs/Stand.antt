@@ -8,19 +8,20 @@ use mathlib.Core.Path.{◌≡◌, refl, ap, sym, ◌∙◌, subst}
 use mathlib.Core.Bool.{Bool, true, false, cond, ◌||◌}
 use mathlib.Core.List.{List, [], ◌∷◌, ◌++◌}
 use lib.Dec.{eqb}
-use lib.ListN.{length, get_or, set, replicate, length-set, length-append, length-replicate, get_or-replicate, get_or-append}
+use lib.ListN.{length, get_or, set, length-set, length-append, get_or-append}
 use lib.Seq.{get_or-set_same, get_or-set_other, get_or-append-add}
 use borrow.Author.Tests.{eq-eqb, ne_eqb, eqb-true, eqb-false}
 use Rattle.laws.specs.Lists.{has}
+use Rattle.laws.proofs.Lists.{length-tabulate, get_d_tabulate}
 use Rattle.laws.proofs.Tests.{less?, same?}
-use Rattle.order.specs.declared.NodeNumber.{NodeNumber}
-use Rattle.order.specs.declared.chains.Colour.{Colour}
+use Rattle.order.specs.declared.chains.Chain.{Chain}
+use Rattle.order.specs.declared.chains.Seat.{Seat}
 use Rattle.order.specs.declared.chains.Held.{Held}
 use Rattle.order.specs.Chains.{Chains, chain, chain_of, join, link, single}
-use Rattle.order.specs.code.Held.{colour, number, colour_at, place_at, length_at, first_at, separate_of, recolour, move, joined_of, pair_of, Fit}
-use Rattle.order.specs.code.Stand.{At, Has, Stand}
+use Rattle.order.specs.code.Held.{seat, top, no_top, seat_at, colour_at, place_at, top_at, separate_of, moved, joined_of, pair_of, Fit}
+use Rattle.order.specs.code.Stand.{top_of, At, Has, Stand}
 use Rattle.order.proofs.Flat.{flat}
-use Rattle.order.proofs.Fills.{length-filled, filled_at}
+use Rattle.order.proofs.Fills.{length-mapped, mapped_at}
 use Rattle.order.proofs.Nodes.{Sound, length-join}
 
 -- ---- the number of a node's chain is its colour
@@ -76,7 +77,7 @@ module _ (n : ℕ) (cs : Chains) (h : Held) (s : Stand n cs h) where
         few = s.tops.few;
         colours = λ p l. (s.at p l).colour;
         places = λ p l. omega (arith, (s.at p l).place, chain-short cs (colour_at h p), o.nodes, s.tops.few);
-        lengths = λ k l. omega (arith, s.tops.lengths k l, chain-short cs k, o.nodes, s.tops.few);
+        lengths = λ k l. omega (arith, ap (λ (t : Chain). t.length) (s.tops.each k l), chain-short cs k, o.nodes, s.tops.few);
       }
 
 -- ---- each node in a chain of its own
@@ -92,11 +93,11 @@ single-long p (suc k) = ap suc (single-long (suc p) k)
 single-chain : (n k : ℕ) → k < n → chain (single 0 n) k ≡ k ∷ []
 single-chain n k h = let e : 0 + k ≡ k = omega arith in single-at 0 n k h ∙ ap (λ (q : ℕ). q ∷ []) e
 
-separate_colour : (k : ℕ) → k < 48 → colour_at separate_of k ≡ k
-separate_colour k h = ap (λ (c : Colour). c.0) (filled_at colour (replicate 48 (colour 0)) 48 k (colour 0) h (omega (arith, length-replicate 48 (colour 0))))
+separate_seat : (k : ℕ) → k < 48 → seat_at separate_of k ≡ seat k 0
+separate_seat k h = get_d_tabulate (λ (k : ℕ). seat k 0) 0 48 k (seat 0 0) h ∙ ap (λ (k : ℕ). seat k 0) (omega arith)
 
-separate_first : (k : ℕ) → k < 48 → first_at separate_of.firsts k ≡ k
-separate_first k h = ap (λ (c : NodeNumber). c.0) (filled_at number (replicate 48 (number 0)) 48 k (number 0) h (omega (arith, length-replicate 48 (number 0))))
+separate_chain : (k : ℕ) → k < 48 → top_at separate_of.chains k ≡ top 1 k
+separate_chain k h = get_d_tabulate (top 1) 0 48 k no_top h ∙ ap (top 1) (omega arith)
 
 module _ (n : ℕ) (few : n ≤ 48) where
   abbrev cs : Chains
@@ -104,8 +105,9 @@ module _ (n : ℕ) (few : n ≤ 48) where
 
   separate_at : (p : ℕ) → p < n → At n cs separate_of p
   separate_at p l =
-      let e : colour_at separate_of p ≡ p = separate_colour p (omega arith) in
-      let z : place_at separate_of p ≡ 0 = get_or-replicate 48 p 0 0 (omega arith) in
+      let a = separate_seat p (omega arith) in
+      let e : colour_at separate_of p ≡ p = ap (λ (s : Seat). s.colour.0) a in
+      let z : place_at separate_of p ≡ 0 = ap (λ (s : Seat). s.place) a in
       let c : chain cs (colour_at separate_of p) ≡ p ∷ [] = ap (chain cs) e ∙ single-chain n p l in
       record {
         colour = omega (arith, e);
@@ -118,10 +120,11 @@ module _ (n : ℕ) (few : n ≤ 48) where
       let c : chain cs k ≡ k ∷ [] = single-chain n k l in
       let z : i ≡ 0 = omega (arith, h, ap (λ (x : List ℕ). length x) c) in
       let r : get_or (chain cs k) i 0 ≡ k = rw (c, z) in
+      let a = separate_seat k (omega arith) in
       record {
         node = omega (arith, r);
-        colour = ap (colour_at separate_of) r ∙ separate_colour k (omega arith);
-        place = ap (place_at separate_of) r ∙ get_or-replicate 48 k 0 0 (omega arith) ∙ sym z;
+        colour = ap (colour_at separate_of) r ∙ ap (λ (s : Seat). s.colour.0) a;
+        place = ap (place_at separate_of) r ∙ ap (λ (s : Seat). s.place) a ∙ sym z;
       }
 
   pub stand-first : Stand n (single 0 n) separate_of
@@ -131,18 +134,14 @@ module _ (n : ℕ) (few : n ≤ 48) where
             record {
               size = single-long 0 n;
               few = few;
-              lengths_long = length-replicate {A = ℕ} 48 1;
-              firsts_long = length-filled number (replicate 48 (number 0)) 48 ∙ length-replicate 48 (number 0);
-              lengths = λ k l. get_or-replicate 48 k 1 0 (omega arith) ∙ sym (ap (λ (x : List ℕ). length x) (single-chain n k l));
-              firsts = λ k l. separate_first k (omega arith) ∙ sym (ap (λ (x : List ℕ). get_or x 0 0) (single-chain n k l));
+              long = length-tabulate (top 1) 0 48;
+              each = λ k l. separate_chain k (omega arith) ∙ sym (ap top_of (single-chain n k l));
             };
-        colours_long = length-filled colour (replicate 48 (colour 0)) 48 ∙ length-replicate 48 (colour 0);
-        places_long = length-replicate {A = ℕ} 48 0;
+        long = length-tabulate (λ (k : ℕ). seat k 0) 0 48;
         at = separate_at;
         has = separate_has;
       }
 
--- ---- two numbers are the same or not, one is below the other or not
 -- ---- the chain y joined to the chain x
 module _ (cs : Chains) (x y : ℕ) (l : x < length cs) (k : y < length cs) (ne : x ≡ y → ⊥) where
   abbrev A : List ℕ
@@ -182,23 +181,27 @@ module _ (n : ℕ) (cs : Chains) (h : Held) (s : Stand n cs h) (x y : ℕ) (l : 
   other : (j : ℕ) → (j ≡ x → ⊥) → (j ≡ y → ⊥) → chain ds j ≡ chain cs j
   other = join-other cs x y lx ly ne
 
-  new-colour : (p : ℕ) → p < n → colour_at h' p ≡ (cond (eqb (colour_at h p) y) (colour x) (get_or h.colours p (colour 0))).0
-  new-colour p i = ap (λ (c : Colour). c.0) (filled_at (recolour h x y) h.colours n p (colour 0) i (omega (arith, s.colours_long, s.tops.few)))
+  -- node p sat in the chain y, or in another
+  new-seat : (p : ℕ) → p < n → seat_at h' p ≡ moved x y (top_at h.chains x).length (seat_at h p)
+  new-seat p i = mapped_at (moved x y (top_at h.chains x).length) h.seats n (omega (arith, s.long, s.tops.few)) p (seat 0 0) i
 
-  new-place : (p : ℕ) → p < n → place_at h' p ≡ move h x y p
-  new-place p i = filled_at (move h x y) h.places n p 0 i (omega (arith, s.places_long, s.tops.few))
+  seat-y : (p : ℕ) → p < n → colour_at h p ≡ y → seat_at h' p ≡ seat x (place_at h p + length (chain cs x))
+  seat-y p i e = new-seat p i ∙ rw (eq-eqb (colour_at h p) y e, s.tops.each x l)
+
+  seat-other : (p : ℕ) → p < n → (colour_at h p ≡ y → ⊥) → seat_at h' p ≡ seat_at h p
+  seat-other p i e = new-seat p i ∙ rw (ne_eqb (colour_at h p) y e)
 
   colour-y : (p : ℕ) → p < n → colour_at h p ≡ y → colour_at h' p ≡ x
-  colour-y p i e = new-colour p i ∙ rw (eq-eqb (colour_at h p) y e)
+  colour-y p i e = ap (λ (s : Seat). s.colour.0) (seat-y p i e)
 
   colour-other : (p : ℕ) → p < n → (colour_at h p ≡ y → ⊥) → colour_at h' p ≡ colour_at h p
-  colour-other p i e = new-colour p i ∙ rw (ne_eqb (colour_at h p) y e)
+  colour-other p i e = ap (λ (s : Seat). s.colour.0) (seat-other p i e)
 
   place-y : (p : ℕ) → p < n → colour_at h p ≡ y → place_at h' p ≡ length (chain cs x) + place_at h p
-  place-y p i e = new-place p i ∙ rw (eq-eqb (colour_at h p) y e) (omega (arith, s.tops.lengths x l))
+  place-y p i e = ap (λ (s : Seat). s.place) (seat-y p i e) ∙ omega arith
 
   place_other : (p : ℕ) → p < n → (colour_at h p ≡ y → ⊥) → place_at h' p ≡ place_at h p
-  place_other p i e = new-place p i ∙ rw (ne_eqb (colour_at h p) y e)
+  place_other p i e = ap (λ (s : Seat). s.place) (seat-other p i e)
 
   -- a node that is where its new colour c and its new place i say
   at-made : (p c i : ℕ) (d : List ℕ) → c < n → chain ds c ≡ d → i < length d → get_or d i 0 ≡ p → colour_at h' p ≡ c → place_at h' p ≡ i → At n ds h' p
@@ -264,39 +267,27 @@ module _ (n : ℕ) (cs : Chains) (h : Held) (s : Stand n cs h) (x y : ℕ) (l : 
         ]
       ]
 
-  head-append : (a b : List ℕ) → 0 < length a → get_or (a ++ b) 0 0 ≡ get_or a 0 0
-  head-append a b z = get_or-append a b 0 0 z
+  top-append : (a b : List ℕ) → 0 < length a → top_of (a ++ b) ≡ record { length = length a + length b; first = (top_of a).first }
+  top-append a b z = rw (length-append a b, get_or-append a b 0 0 z)
 
-  abbrev sum : ℕ
-  sum = length_at h.lengths x + length_at h.lengths y
+  -- the chain x with that of y, as it is stored
+  abbrev both : Chain
+  both = record { length = (top_at h.chains x).length + (top_at h.chains y).length; first = (top_at h.chains x).first }
 
-  joined-lengths : (j : ℕ) → j < n → length_at h'.lengths j ≡ length (chain ds j)
-  joined-lengths j b =
+  both-is : both ≡ top_of (chain cs x ++ chain cs y)
+  both-is = rw (s.tops.each x l, s.tops.each y k) (sym (top-append (chain cs x) (chain cs y) some))
+
+  joined-tops : (j : ℕ) → j < n → top_at h'.chains j ≡ top_of (chain ds j)
+  joined-tops j b =
       elim (same? j y) [
-        | inl e ↦ rw (e, second) (get_or-set_same (set h.lengths x sum) y 0 0 (rw (length-set h.lengths x sum) (omega (arith, s.tops.lengths_long, s.tops.few))))
+        | inl e ↦ rw (e, second) (get_or-set_same (set h.chains x both) y no_top no_top (rw (length-set h.chains x both) (omega (arith, s.tops.long, s.tops.few))))
         | inr o ↦
-            let past : length_at h'.lengths j ≡ length_at (set h.lengths x sum) j = get_or-set_other (set h.lengths x sum) y j 0 0 o in
+            let past : top_at h'.chains j ≡ top_at (set h.chains x both) j = get_or-set_other (set h.chains x both) y j no_top no_top o in
             elim (same? j x) [
               | inl e ↦
-                  past ∙ ap (length_at (set h.lengths x sum)) e ∙ get_or-set_same h.lengths x sum 0 (omega (arith, s.tops.lengths_long, s.tops.few))
-                  ∙ rw (e, first, length-append) (omega (arith, s.tops.lengths x l, s.tops.lengths y k))
-              | inr u ↦ past ∙ get_or-set_other h.lengths x j sum 0 u ∙ s.tops.lengths j b ∙ sym (ap (λ (v : List ℕ). length v) (other j u o))
-            ]
-      ]
-
-  joined-firsts : (j : ℕ) → j < n → first_at h'.firsts j ≡ get_or (chain ds j) 0 0
-  joined-firsts j b =
-      elim (same? j y) [
-        | inl e ↦
-            ap (first_at h'.firsts) e ∙ ap (λ (f : NodeNumber). f.0) (get_or-set_same h.firsts y (number 0) (number 0) (omega (arith, s.tops.firsts_long, s.tops.few)))
-            ∙ sym (ap (λ (v : List ℕ). get_or v 0 0) (ap (chain ds) e ∙ second))
-        | inr o ↦
-            let past : first_at h'.firsts j ≡ first_at h.firsts j = ap (λ (f : NodeNumber). f.0) (get_or-set_other h.firsts y j (number 0) (number 0) o) in
-            elim (same? j x) [
-              | inl e ↦
-                  past ∙ s.tops.firsts j b ∙ ap (λ (v : ℕ). get_or (chain cs v) 0 0) e
-                  ∙ sym (ap (λ (v : List ℕ). get_or v 0 0) (ap (chain ds) e ∙ first) ∙ head-append (chain cs x) (chain cs y) some)
-              | inr u ↦ past ∙ s.tops.firsts j b ∙ sym (ap (λ (v : List ℕ). get_or v 0 0) (other j u o))
+                  past ∙ ap (top_at (set h.chains x both)) e ∙ get_or-set_same h.chains x both no_top (omega (arith, s.tops.long, s.tops.few))
+                  ∙ both-is ∙ ap top_of (sym (ap (chain ds) e ∙ first))
+              | inr u ↦ past ∙ get_or-set_other h.chains x j both no_top u ∙ s.tops.each j b ∙ ap top_of (sym (other j u o))
             ]
       ]
 
@@ -307,13 +298,10 @@ module _ (n : ℕ) (cs : Chains) (h : Held) (s : Stand n cs h) (x y : ℕ) (l : 
             record {
               size = length-join cs x y ∙ s.tops.size;
               few = s.tops.few;
-              lengths_long = length-set (set h.lengths x sum) y 0 ∙ length-set h.lengths x sum ∙ s.tops.lengths_long;
-              firsts_long = length-set h.firsts y (number 0) ∙ s.tops.firsts_long;
-              lengths = joined-lengths;
-              firsts = joined-firsts;
+              long = length-set (set h.chains x both) y no_top ∙ length-set h.chains x both ∙ s.tops.long;
+              each = joined-tops;
             };
-        colours_long = length-filled (recolour h x y) h.colours n ∙ s.colours_long;
-        places_long = length-filled (move h x y) h.places n ∙ s.places_long;
+        long = length-mapped (moved x y (top_at h.chains x).length) h.seats n (omega (arith, s.long, s.tops.few)) ∙ s.long;
         at = joined_at;
         has = joined-has;
       }

@@ -8,7 +8,8 @@ use lib.ListN.{length, get_or, replicate, length-replicate}
 use Rattle.graph.specs.Shape.{Shape}
 use Rattle.order.specs.Against.{all}
 use Rattle.order.specs.Weights.{before_of, after_of, round, first, weights}
-use Rattle.order.specs.code.Sums.{tallied, sums_of, makes₁, makes₂, round_at, Rows, RoundFits, Codes, Hold}
+use Rattle.order.specs.declared.weights.Round.TheVariants.{First, Second}
+use Rattle.order.specs.code.Sums.{tallied, sums_of, makes, round_at, Rows, RoundFits, Codes, Hold}
 use Rattle.order.proofs.Rounds.{fine-first, flagged_first}
 use Rattle.order.proofs.Hold.{made-is, stood-again}
 use Rattle.order.proofs.Start.{codes-size, hold_first, tallied-long}
@@ -31,10 +32,10 @@ module _ (g : Shape) (xs : List ℕ) (d : Codes g xs) where
     hold₀ : Hold (length g) (first g) s
     hold₀ = subst (Hold (length g) (first g)) (sym h) (hold_first g xs d (replicate 1128 0) (length-replicate {A = ℕ} 1128 0) (zeros-at 1128))
 
-    made : (a b : ℕ) → a < b → b < length g → round_at makes₁ s a b ≡ sums_of (before_of a b (round (first g))) (after_of a b (round (first g)))
+    made : (a b : ℕ) → a < b → b < length g → round_at (makes First) s a b ≡ sums_of (before_of a b (round (first g))) (after_of a b (round (first g)))
     made a b i j = made-is (length g) (first g) (fine-first g d.aimed) s hold₀ a b i j (flagged_first g)
 
-    pub fits-first : RoundFits makes₁ (length g) s
+    pub fits-first : RoundFits (makes First) (length g) s
     fits-first =
         record {
           long = long;
@@ -43,14 +44,14 @@ module _ (g : Shape) (xs : List ℕ) (d : Codes g xs) where
         }
 
     -- round 2: q is the table after it
-    module _ (r : List ℕ) (w : Rows makes₁ (length g) (length g) s r) where
+    module _ (r : List ℕ) (w : Rows (makes First) (length g) (length g) s r) where
       hold₁ : Hold (length g) (round (first g)) r
       hold₁ a b i j = w.did a b i j (omega arith) ∙ made a b i j
 
-      stood : (a b : ℕ) → a < b → b < length g → round_at makes₂ r a b ≡ sums_of (before_of a b (round (round (first g)))) (after_of a b (round (round (first g))))
+      stood : (a b : ℕ) → a < b → b < length g → round_at (makes Second) r a b ≡ sums_of (before_of a b (round (round (first g)))) (after_of a b (round (round (first g))))
       stood a b i j = stood-again (length g) (first g) (fine-first g d.aimed) (flagged_first g) r hold₁ a b i j
 
-      pub fits-second : RoundFits makes₂ (length g) r
+      pub fits-second : RoundFits (makes Second) (length g) r
       fits-second =
           record {
             long = w.long ∙ long;
@@ -58,6 +59,6 @@ module _ (g : Shape) (xs : List ℕ) (d : Codes g xs) where
             fits = λ a b i j. omega (arith, stood a b i j, before-most g d.few d.aimed room a b i j, after-most g d.few d.aimed room a b i j);
           }
 
-      pub weighed : (q : List ℕ) → Rows makes₂ (length g) (length g) r q → Hold (length g) (weights g) q
+      pub weighed : (q : List ℕ) → Rows (makes Second) (length g) (length g) r q → Hold (length g) (weights g) q
       unfolding weights
       weighed q v a b i j = v.did a b i j (omega arith) ∙ stood a b i j

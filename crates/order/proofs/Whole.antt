@@ -1,28 +1,27 @@
 -- The code's table, keys and chains of a graph are those of the definitions, up to the first columns.
 -- Assumes nothing.
-use Prim.Native.Nat.{ℕ, zero, suc, ◌+◌, ◌-◌, ◌/◌, ◌%◌, ◌≤◌, ◌<◌}
+use Prim.Native.Nat.{ℕ, zero, suc, ◌+◌, ◌/◌, ◌%◌, ◌≤◌, ◌<◌}
 use native.Mathlib.Omega.{arith}
 use mathlib.Core.Logic.{inl, inr}
 use mathlib.Core.Path.{◌≡◌, refl, ap, sym, ◌∙◌, subst}
 use mathlib.Core.Bool.{false}
 use mathlib.Core.List.{List, [], ◌∷◌, ◌++◌, map}
 use lib.Dec.{ltb}
-use lib.ListN.{length, get_or, take, replicate, length-map}
-use lib.Seq.{take-suc, take-length, take_at}
+use lib.ListN.{length, get_or, take, length-map}
+use lib.Seq.{take-suc, take-length}
 use borrow.Author.Tests.{eq-eqb, ne_eqb, lt-ltb, le-ltb}
 use Rattle.laws.proofs.Tests.{less?, same?, pick-through}
 use Rattle.graph.specs.Shape.{Shape}
 use Rattle.order.specs.Against.{Against, all}
 use Rattle.order.specs.Weights.{Table, stands, before_of, after_of, round, first, weights}
 use Rattle.order.specs.Chains.{Triple, triple, turned, triple_of, placed, rising, triples, chains, order, columns}
-use Rattle.order.specs.Claims.{Aimed, EachOnce}
+use Rattle.order.specs.Ordered.{columns_held}
 use Rattle.order.specs.declared.chains.Held.{Held}
-use Rattle.order.specs.code.Held.{laid_first, laid_of, Ready, Fit, colour_at, place_at, column_of, columns_of}
+use Rattle.order.specs.code.Held.{laid_first, laid_of, Ready, Fit, colour_at, place_at, columns_of}
 use Rattle.order.specs.code.Stand.{Stand}
 use Rattle.order.specs.code.Keys.{key_of, held_after, Keyed}
 use Rattle.order.specs.code.Sums.{at, sums_of, first_in, second_in, turn_key, key_at, keys_after, Codes, Charted, Hold, Weighed}
-use Rattle.order.proofs.Nodes.{Sound, Both, both-all, Firsts, firsts-map, firsts-rising, firsts-triples, sound-chains, each-once}
-use Rattle.order.proofs.Fills.{filled-whole}
+use Rattle.order.proofs.Nodes.{Sound, Both, both-all, Firsts, firsts-map, firsts-rising, firsts-triples, sound-chains}
 use Rattle.order.proofs.Stand.{fit}
 use Rattle.order.proofs.Lay.{left, gone, going, ready, here-inside, columns-are}
 use Rattle.order.proofs.Sorted.{Small, Smalls, smalls, placed_keys, stand-after, keyed}
@@ -145,9 +144,9 @@ module _ (g : Shape) (xs : List ℕ) (d : Codes g xs) (s : List ℕ) (h : Hold (
   pub inside-all : (p : ℕ) → p < n → get_or (laid_of n (laid_first h₁) n).starts (colour_at h₁ p) 0 + place_at h₁ p < n
   inside-all p l = here-inside n (chains g) h₁ stands-all sound-all p l
 
-  pub columns-all : take n (columns_of h₁ (laid_of n (laid_first h₁) n).starts n) ≡ columns g
+  pub columns-all : columns_of h₁ (laid_of n (laid_first h₁) n).starts n ≡ columns_held (columns g)
   unfolding columns order
-  columns-all = columns-are n (chains g) h₁ stands-all sound-all
+  columns-all = ap columns_held (columns-are n (chains g) h₁ stands-all sound-all)
 
 -- ---- of any graph of n nodes whose codes these are, and a table that has its weights
 abbrev pub keys_of : List ℕ → List ℕ → List ℕ
@@ -178,13 +177,5 @@ module _ (xs : List ℕ) (n : ℕ) (w : Charted xs n) (s : List ℕ) (h : Weighe
   pub inside-at : (p : ℕ) → p < n → get_or (starts_of xs s n) (colour_at (held_of xs s n) p) 0 + place_at (held_of xs s n) p < n
   inside-at = subst (λ (k : ℕ). (p : ℕ) → p < k → get_or (starts_of xs s k) (colour_at (held_of xs s k) p) 0 + place_at (held_of xs s k) p < k) w.size (inside-all w.graph xs w.codes s held_at)
 
--- the whole array: the columns of n nodes, and 0 past them
-pub columns-at : (xs : List ℕ) (n : ℕ) (s : List ℕ) → Weighed xs n s → (g : Shape) → Codes g xs → length g ≡ n → columns_of (held_of xs s n) (starts_of xs s n) n ≡ columns g ++ replicate (48 - n) 0
-columns-at xs n s h g d e =
-    filled-whole (column_of (held_of xs s n) (starts_of xs s n)) n 48
-    ∙ ap (λ (v : List ℕ). v ++ replicate (48 - n) 0) (subst (λ (k : ℕ). take k (columns_of (held_of xs s k) (starts_of xs s k) k) ≡ columns g) e (columns-all g xs d s (h g d e)))
-
-pub each_at : (n : ℕ) (g : Shape) → Aimed (length g) g → length g ≡ n → EachOnce n (take n (columns g ++ replicate (48 - n) 0))
-each_at n g a e =
-    let o = subst (λ (k : ℕ). EachOnce k (columns g)) e (each-once g a) in
-    rw (take_at (columns g) (replicate (48 - n) 0) n o.size) o
+pub columns-at : (xs : List ℕ) (n : ℕ) (s : List ℕ) → Weighed xs n s → (g : Shape) → Codes g xs → length g ≡ n → columns_of (held_of xs s n) (starts_of xs s n) n ≡ columns_held (columns g)
+columns-at xs n s h g d e = subst (λ (k : ℕ). columns_of (held_of xs s k) (starts_of xs s k) k ≡ columns_held (columns g)) e (columns-all g xs d s (h g d e))

@@ -4,12 +4,13 @@
 -- Assumes nothing.
 use Rattle.std.specs.Prelude.{ℕ, ◌≡◌, refl, List, [], ◌∷◌, Option, Some, None}
 use Rattle.laws.specs.Lists.{padded}
+use Rattle.tables.specs.declared.Table.{Table}
 use Rattle.graph.specs.declared.Lead.{Lead}
 use Rattle.graph.specs.Items.{Ends}
 use Rattle.graph.specs.Ends.{no_lead, shape_from}
 use Rattle.graph.specs.Shape.{Incidents}
 use Rattle.order.specs.Chains.{columns}
-use Rattle.order.specs.Ordered.{columns_in}
+use Rattle.order.specs.Ordered.{columns_held, columns_in}
 
 abbrev ends : List ℕ → List ℕ → Incidents
 ends sources sinks = record { sources = sources; sinks = sinks }
@@ -124,8 +125,8 @@ from owner to = record { owner = owner; to = to }
 abbrev no-ends : Ends
 no-ends = held 0 []
 
-abbrev linked-with : List ℕ → Option (List ℕ)
-linked-with cs = Some (padded 48 0 cs)
+abbrev linked-with : List ℕ → Option (Table ℕ 48)
+linked-with cs = Some (columns_held cs)
 
 ends-linked : columns_in 2 (held 1 (from 1 0 ∷ [])) (held 1 (from 0 1 ∷ [])) ≡ linked-with (2 ∷ 0 ∷ [])
 unfolding columns_in columns shape_from

@@ -52,13 +52,14 @@ pub record IsOrder (w : Setting) (s : List ℕ) (r : Result (Table ℕ 48) Refus
 abbrev pub linked_of : ℕ → Ends → Bool
 linked_of n e = leb n 48 && (leb e.count 88 && all_of (λ (l : Lead). ltb l.owner n && ltb l.to n) (take e.count e.items))
 
--- where the ends are linked, the first columns of n nodes with these sources and sinks, and 0 past them
-unfoldable pub columns_in : ℕ → Ends → Ends → Option (List ℕ)
-columns_in n sources sinks = cond (linked_of n sources && linked_of n sinks) (Some (padded 48 0 (columns (shape_from n sources sinks)))) None
+-- where the ends are linked, the first columns of n nodes with these sources and sinks
+unfoldable pub columns_in : ℕ → Ends → Ends → Option (Table ℕ 48)
+columns_in n sources sinks = cond (linked_of n sources && linked_of n sinks) (Some (columns_held (columns (shape_from n sources sinks)))) None
 
 -- what `order_of` promises
-pub record IsColumns (n : ℕ) (sources sinks : Ends) (r : Option (List ℕ)) : Type 0 where
+pub record IsColumns (n : ℕ) (sources sinks : Ends) (r : Option (Table ℕ 48)) : Type 0 where
   -- every entry is the definition's, past the nodes too; there are none only where the ends are not linked
   pub whole : r ≡ columns_in n sources sinks
-  -- the columns are 0, 2, .. 2(n - 1), each node exactly one
-  pub each : (cs : List ℕ) → r ≡ Some cs → EachOnce n (take n cs)
+  -- there are n columns: 0, 2, .. 2(n - 1), each node exactly one
+  pub count : (cs : Table ℕ 48) → r ≡ Some cs → cs.count ≡ n
+  pub each : (cs : Table ℕ 48) → r ≡ Some cs → EachOnce n (take n cs.items)

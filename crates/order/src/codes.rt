@@ -41,8 +41,8 @@ fn push_neighbours(to: &[u8], codes: &mut Table<u16, 352>)
     requires { codes.old.count + (length to.now - 1) ≤ 352 }
     ensures { Pushed codes.old codes.new (map code_of (neighbours to.now)) }
 {
-    for k in 1..to.len() {
-        codes.push(code(to[k - 1], to[k]));
+    for pair in to.windows(2) {
+        codes.push(code(pair[0], pair[1]));
     }
 }
 
@@ -68,23 +68,33 @@ fn push_list(leads: &[Lead], p: u8, later: usize, codes: &mut Table<u16, 352>)
     push_pairs(to, p, to.len() / 2 + later, codes);
 }
 
-// All of node p: its sources are reversed past half the list, its sinks from half on.
-fn push_node(sources: &Ends, sinks: &Ends, p: u8, codes: &mut Table<u16, 352>)
-    requires { codes.old.count + 2 * length (ends_of sources.now p) + 2 * length (ends_of sinks.now p) ≤ 352 }
-    ensures { Pushed codes.old codes.new (node_codes p (incidents_in sources.now sinks.now p)) }
-{
-    push_list(sources.as_slice(), p, 1, codes);
-    push_list(sinks.as_slice(), p, 0, codes);
+// The sources and the sinks of n nodes, whose leads go from one of these nodes to one.
+#[derive(Clone, Copy)]
+pub struct Nodes<'a> {
+    pub sources: &'a Ends,
+    pub sinks: &'a Ends,
+    pub n: usize,
+    ghost sources_linked: { Linked n sources.now },
+    ghost sinks_linked: { Linked n sinks.now },
 }
 
-// The codes of all nodes.
-pub fn codes_of(sources: &Ends, sinks: &Ends, n: usize, codes: &mut Table<u16, 352>)
-    requires linked { Linked n sources.now }
-    requires linked_2 { Linked n sinks.now }
-    requires none { codes.old.count ≡ 0 }
-    ensures { Codes (shape_from n sources.now sinks.now) (take codes.new.count codes.new.items) }
-{
-    for p in 0..n {
-        push_node(sources, sinks, p as u8, codes);
+impl Nodes<'_> {
+    // All of node p: its sources are reversed past half the list, its sinks from half on.
+    fn push_node(&self, p: u8, codes: &mut Table<u16, 352>)
+        requires { codes.old.count + 2 * length (ends_of self.now.sources.now p) + 2 * length (ends_of self.now.sinks.now p) ≤ 352 }
+        ensures { Pushed codes.old codes.new (node_codes p (incidents_in self.now.sources.now self.now.sinks.now p)) }
+    {
+        push_list(self.sources.as_slice(), p, 1, codes);
+        push_list(self.sinks.as_slice(), p, 0, codes);
+    }
+
+    // The codes of all nodes.
+    pub fn push_all(&self, codes: &mut Table<u16, 352>)
+        requires { codes.old.count ≡ 0 }
+        ensures { Codes (shape_from self.now.n self.now.sources.now self.now.sinks.now) (take codes.new.count codes.new.items) }
+    {
+        for p in 0..self.n {
+            self.push_node(p as u8, codes);
+        }
     }
 }

@@ -9,6 +9,7 @@ ghost use Rattle.order.specs.Chains.{columns};
 ghost use Rattle.order.specs.Ordered.{columns_held, IsOrder, linked_of, IsColumns};
 
 use chart::Setting;
+use codes::Nodes;
 use columns::first_of;
 use graph::{Ends, Lead, Tables};
 use refusals::Refusal;
@@ -22,7 +23,7 @@ mod sums;
 mod weights;
 
 // A node, by its number.
-#[derive(Clone, Copy)]
+#[derive(Clone, Copy, Default, PartialEq, Eq, PartialOrd, Ord)]
 pub struct NodeNumber(pub u8);
 
 // The first columns, that of node p at p, and 0 past the last.
@@ -35,10 +36,11 @@ fn drawn(g: Tables) -> Columns
 {
     let sources = graph::ends_of(g.sources);
     let sinks = graph::ends_of(g.sinks);
-    Table {
-        items: first_of(&sources, &sinks, g.n),
-        count: g.n,
-    }
+    first_of(&Nodes {
+        sources: &sources,
+        sinks: &sinks,
+        n: g.n,
+    })
 }
 
 // Each node's first column, or the first refusal of 1 to 13.
@@ -59,12 +61,12 @@ fn linked(e: &Ends, n: usize) -> bool
     n <= 48 && e.count <= 88 && leads.iter().all(inside)
 }
 
-// Each node's first column, 0 past the last node, from the sources and sinks of n nodes, which any caller may have made. Ends that are not linked have none.
-pub fn order_of(sources: &Ends, sinks: &Ends, n: usize) -> Option<[u8; 48]>
+// Each node's first column, from the sources and sinks of n nodes, which any caller may have made. Ends that are not linked have none.
+pub fn order_of(sources: &Ends, sinks: &Ends, n: usize) -> Option<Columns>
     ensures { IsColumns n sources.now sinks.now result }
 {
     if !linked(sources, n) || !linked(sinks, n) {
         return None;
     }
-    Some(first_of(sources, sinks, n))
+    Some(first_of(&Nodes { sources, sinks, n }))
 }

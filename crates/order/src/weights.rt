@@ -1,6 +1,6 @@
 // Pair weights: how often one node stands against another, and two rounds in which pairs add to pairs.
 ghost use Rattle.std.specs.Prelude.{◌≡◌, ℕ, ◌*◌, ◌<◌, ◌≤◌, get_or, length, replicate};
-ghost use Rattle.order.specs.code.Sums.{count_of, tallied, takes, Over, Row, Rows, OverFits, RowFits, RoundFits, Coded, Charted, Weighed};
+ghost use Rattle.order.specs.code.Sums.{count_of, tallied, makes, takes, Over, Row, Rows, OverFits, RowFits, RoundFits, Coded, Charted, Weighed};
 
 use crate::sums::{pair_at, row_at};
 
@@ -29,57 +29,69 @@ fn tally(codes: &[u16], sums: &mut [u32; 1128])
     }
 }
 
-// Whether the pair with the sums x takes part in a round in which missing pairs are made, or not.
-fn takes_part(make: bool, x: u32) -> bool
-    ensures { result ≡ takes make x }
-{
-    make || 0 < x
+// A round: missing pairs are made in the first and not in the second.
+#[derive(Clone, Copy)]
+enum Round {
+    First,
+    Second,
 }
 
-// The ways from a over b, added to the pairs of a with nodes after b. The pairs (a, c) stand one after another, and so do the pairs (b, c).
-fn add_ways(sums: &mut [u32; 1128], a: u32, b: u32, n: u32, make: bool)
-    requires { OverFits make n a b sums.old }
-    ensures { Over make n a b sums.old sums.new }
-{
-    let first = pair_at(a, b);
-    let x = sums[first as usize];
-    if x == 0 {
-        return;
+impl Round {
+    // Whether the pair with the sums x takes part.
+    fn takes_part(self, x: u32) -> bool
+        ensures { result ≡ takes (makes self) x }
+    {
+        match self {
+            Round::First => true,
+            Round::Second => 0 < x,
+        }
     }
-    let apart = row_at(b) - row_at(a);
-    for c in b + 1..n {
-        let i = first + (c - b);
-        let y = sums[(i + apart) as usize];
-        if 0 < y {
-            let z = sums[i as usize];
-            if takes_part(make, z) {
-                sums[i as usize] = z + (x + y);
+
+    // The ways from a over b, added to the pairs of a with nodes after b. The pairs (a, c) stand one after another, and so do the pairs (b, c).
+    fn add_ways(self, sums: &mut [u32; 1128], a: u32, b: u32, n: u32)
+        requires { OverFits (makes self) n a b sums.old }
+        ensures { Over (makes self) n a b sums.old sums.new }
+    {
+        let first = pair_at(a, b);
+        let x = sums[first as usize];
+        if x == 0 {
+            return;
+        }
+        let apart = row_at(b) - row_at(a);
+        for c in b + 1..n {
+            let i = first + (c - b);
+            let y = sums[(i + apart) as usize];
+            if 0 < y {
+                let z = sums[i as usize];
+                if self.takes_part(z) {
+                    sums[i as usize] = z + (x + y);
+                }
             }
+        }
+    }
+
+    // The pairs of a with larger nodes. The nodes between fall, so that the pair of a and the next of them is as it was when the round began.
+    fn row(self, sums: &mut [u32; 1128], a: u32, n: u32)
+        requires { RowFits (makes self) n a sums.old }
+        ensures { Row (makes self) n a a sums.old sums.new }
+    {
+        for b in (a + 1..n).rev() {
+            self.add_ways(sums, a, b, n);
+        }
+    }
+
+    // The round, in place: the rows rise, and each reads only rows that the round has not changed yet.
+    fn run(self, sums: &mut [u32; 1128], n: u32)
+        requires { RoundFits (makes self) n sums.old }
+        ensures { Rows (makes self) n n sums.old sums.new }
+    {
+        for a in 0..n {
+            self.row(sums, a, n);
         }
     }
 }
 
-// The pairs of a with larger nodes. The nodes between fall, so that the pair of a and the next of them is as it was when the round began.
-fn round_row(sums: &mut [u32; 1128], a: u32, n: u32, make: bool)
-    requires { RowFits make n a sums.old }
-    ensures { Row make n a a sums.old sums.new }
-{
-    for b in (a + 1..n).rev() {
-        add_ways(sums, a, b, n, make);
-    }
-}
-
-// A round, in place: the rows rise, and each reads only rows that the round has not changed yet.
-fn round(sums: &mut [u32; 1128], n: u32, make: bool)
-    requires { RoundFits make n sums.old }
-    ensures { Rows make n n sums.old sums.new }
-{
-    for a in 0..n {
-        round_row(sums, a, n, make);
-    }
-}
-
-// The pair sums after both rounds. Missing pairs are made in the first and not in the second.
+// The pair sums after both rounds.
 pub fn pair_weights(codes: &[u16], n: usize, sums: &mut [u32; 1128])
     requires charted { Charted codes.now n }
     requires sums_value { sums.old ≡ replicate 1128 0 }
@@ -87,6 +99,6 @@ pub fn pair_weights(codes: &[u16], n: usize, sums: &mut [u32; 1128])
 {
     let nodes = n as u32;
     tally(codes, sums);
-    round(sums, nodes, true);
-    round(sums, nodes, false);
+    Round::First.run(sums, nodes);
+    Round::Second.run(sums, nodes);
 }

@@ -74,7 +74,7 @@ smalls-more xs d (text.more {ds = ys} s ss) h = text.more s (smalls-more ys d ss
 
 drawn-smalls : (ps : List Part) → SmallParts ps → Smalls (drawn_all ps)
 drawn-smalls [] h = text.none
-drawn-smalls (p ∷ ps) h = smalls-more (drawn_all ps) (part_of p) (drawn-smalls ps h.1) (range_small (part_of p) (drawn_range p.letter p.numbers h.0))
+drawn-smalls (p ∷ ps) h = smalls-more (drawn_all ps) (part_of p) (drawn-smalls ps h.1) (range_small (part_of p) (drawn_range p.command p.numbers h.0))
 
 module _ (s : List ℕ) (ds : List Drawn) (e : read s ≡ segments ds) where
   -- no number is above the limit

@@ -14,6 +14,7 @@ use Rattle.laws.proofs.Tests.{and_false}
 use Rattle.refusals.specs.declared.TextRefusal.TheVariants.{NotProfile}
 use Rattle.path.specs.declared.reader.Phase.{Phase}
 use Rattle.path.specs.declared.reader.Phase.TheVariants.{Begin, Letter, Lettered, Digit, Number, Point, Halved, Stopped}
+use Rattle.path.specs.declared.reader.Command.{Command}
 use Rattle.path.specs.declared.reader.Act.{Act}
 use Rattle.path.specs.declared.reader.Act.TheVariants.{Letter as letter, Space as space, First as first, More as more, Point as point, Half as half, Stop as stop, Stay as stay}
 use Rattle.path.specs.declared.reader.Stand.{Stand}
@@ -27,7 +28,7 @@ use Rattle.path.proofs.Backs.{words_back, front, back, whole, back-text}
 use Rattle.path.proofs.Backs as backs
 use Rattle.path.proofs.Readings.{part, Last, begin, after_segment, after_letter, after_space, in_number, after_point, after_half, Held, held, halted, read_held, refused-told}
 use Rattle.path.proofs.Wholes.{read_next}
-use Rattle.path.proofs.Writings.{run-append, is_word, a-digit, letter_wants}
+use Rattle.path.proofs.Writings.{run-append, is_word, a-digit, letter_wants, command_of}
 
 -- a byte was refused
 abbrev is_stopped : Phase → Bool
@@ -152,13 +153,13 @@ numbers-taken (k ∷ ks) at r t =
     rw (run-append (32 ∷ number_text k) (numbers_text ks) at r)
     (numbers-taken ks (at + length (32 ∷ number_text k)) (run_from (32 ∷ number_text k) at r) (number-taken k at (length ks) r t))
 
-letter-act : (p : Phase) (v : ℕ) (d : Drawn) → (p ≡ Begin) ⊎ (p ≡ Letter) → act_of p v (letter_of d) ≡ letter (letter_of d)
+letter-act : (p : Phase) (v : ℕ) (d : Drawn) → (p ≡ Begin) ⊎ (p ≡ Letter) → act_of p v (letter_of d) ≡ letter (command_of d)
 letter-act p v d (inl e) = rw (e, (letter_wants d).0)
 letter-act p v d (inr e) = rw (e, (letter_wants d).0)
 
 segment-taken : (d : Drawn) (at : ℕ) (r : Reading) → (r.stand.phase ≡ Begin) ⊎ (r.stand.phase ≡ Letter) → Taken (run_from (segment_text d) at r) 0
 segment-taken d at r p =
-    let e : (step at r (letter_of d)).stand ≡ moved (letter (letter_of d)) at r.stand = step_as at (letter_of d) r (letter (letter_of d)) (letter-act r.stand.phase r.stand.value d p) in
+    let e : (step at r (letter_of d)).stand ≡ moved (letter (command_of d)) at r.stand = step_as at (letter_of d) r (letter (command_of d)) (letter-act r.stand.phase r.stand.value d p) in
     numbers-taken (numbers_of d) (suc at) (step at r (letter_of d)) (record { end = ap (λ (y : Stand). is_word y.phase) e; left = ap (λ (y : Stand). y.left) e ∙ (letter_wants d).1 })
 
 rest-taken : (ds : List Drawn) (at : ℕ) (r : Reading) → Taken r 0 → Taken (run_from (rest_text ds) at r) 0
@@ -198,7 +199,7 @@ zero_text : number_text 0 ≡ 48 ∷ []
 unfolding number_text digits
 zero_text = refl
 
-fill-words : (l b : ℕ) (hs : List ℕ) → words_back b (fill l hs) ≡ words_back b hs ++ zeros l
+fill-words : (l : ℕ) (b : Command) (hs : List ℕ) → words_back b (fill l hs) ≡ words_back b hs ++ zeros l
 fill-words zero b hs = sym (append-nil (words_back b hs))
 fill-words (suc l) b hs =
     fill-words l b (0 ∷ hs)
@@ -209,22 +210,22 @@ fill-length : (l : ℕ) (hs : List ℕ) → length (fill l hs) ≡ length hs + l
 fill-length zero hs = omega arith
 fill-length (suc l) hs = omega (arith, fill-length l (0 ∷ hs))
 
-last_goes : (b l : ℕ) (hs : List ℕ) (ps : List Part) → Last b hs l ps → back (part b hs ∷ ps) ++ zeros l ≡ text_of (drawn_all (part b (fill l hs) ∷ ps))
+last_goes : (b : Command) (l : ℕ) (hs : List ℕ) (ps : List Part) → Last b hs l ps → back (part b hs ∷ ps) ++ zeros l ≡ text_of (drawn_all (part b (fill l hs) ∷ ps))
 last_goes b l hs ps a =
     append_assoc (front ps) (words_back b hs) (zeros l)
     ∙ ap (λ (z : List ℕ). front ps ++ z) (sym (fill-words l b hs))
-    ∙ sym (back-text (part b (fill l hs) ∷ ps) (backs.more (whole b (fill l hs) a.named (fill-length l hs ∙ a.counted)) a.before))
+    ∙ sym (back-text (part b (fill l hs) ∷ ps) (backs.more (whole b (fill l hs) (fill-length l hs ∙ a.counted)) a.before))
 
 -- the same, where the text taken is x more than the part's
-last-with : (b l : ℕ) (hs : List ℕ) (ps : List Part) (t r : List ℕ) → Last b hs l ps → t ++ r ≡ back (part b hs ∷ ps) ++ zeros l → Continues t
+last-with : (b : Command) (l : ℕ) (hs : List ℕ) (ps : List Part) (t r : List ℕ) → Last b hs l ps → t ++ r ≡ back (part b hs ∷ ps) ++ zeros l → Continues t
 last-with b l hs ps t r a e = (drawn_all (part b (fill l hs) ∷ ps), r, e ∙ last_goes b l hs ps a)
 
 pub goes : (p : Phase) (l v : ℕ) (ps : List Part) (t : List ℕ) → Held p l v ps t → is_stopped p ≡ false → Continues t
 goes p l v ps t (held begin e) z = ([], [], append-nil t ∙ sym e ∙ unfold text_of in refl)
 goes p l v ps t (held (after_segment {p = q} {ps = qs} w) e) z = (
-  drawn_all (part 90 [] ∷ q ∷ qs),
+  drawn_all (part Command.Close [] ∷ q ∷ qs),
   90 ∷ [],
-  ap (λ (y : List ℕ). y ++ 90 ∷ []) (sym e) ∙ sym (back-text (part 90 [] ∷ q ∷ qs) (backs.more (whole 90 [] refl refl) w)),
+  ap (λ (y : List ℕ). y ++ 90 ∷ []) (sym e) ∙ sym (back-text (part Command.Close [] ∷ q ∷ qs) (backs.more (whole Command.Close [] refl) w)),
 )
 goes p l v ps t (held (after_letter {b = b} {ps = qs} a) e) z =
     last-with b l [] qs t (zeros l) a (ap (λ (y : List ℕ). y ++ zeros l) (sym e ∙ append-nil (back (part b [] ∷ qs))))
@@ -239,7 +240,7 @@ goes p l v ps t (held (after_point {b = b} {h = h} {hs = hs} {ps = qs} n w a) e)
     let u : h + 1 ≡ 2 * n + 1 = omega arith in
     let i : number_text h ≡ digits n = ap number_text w ∙ text-whole n in
     let j : number_text (h + 1) ≡ digits n ++ 46 ∷ 53 ∷ [] = ap number_text u ∙ text-half n in
-    last-with b l ((h + 1) ∷ hs) qs t (53 ∷ zeros l) (record { named = a.named; counted = a.counted; before = a.before })
+    last-with b l ((h + 1) ∷ hs) qs t (53 ∷ zeros l) (record { counted = a.counted; before = a.before })
     (ap (λ (y : List ℕ). y ++ 53 ∷ zeros l) (sym e) ∙ rw (i, j) (simp append_assoc))
 goes p l v ps t (held (after_half {b = b} {h = h} {hs = hs} {ps = qs} a) e) z =
     last-with b l (h ∷ hs) qs t (zeros l) a (ap (λ (y : List ℕ). y ++ zeros l) (sym e ∙ append-nil (back (part b (h ∷ hs) ∷ qs))))

@@ -10,22 +10,24 @@ use lib.ListN.{length, get_or}
 use Rattle.std.specs.Prelude.{Option, Some, None}
 use Rattle.path.specs.declared.reader.Phase.{Phase}
 use Rattle.path.specs.declared.reader.Phase.TheVariants.{Begin, Letter, Lettered, Digit, Number, Point, Halved, Stopped}
+use Rattle.path.specs.declared.reader.Command.{Command}
 use Rattle.path.specs.declared.reader.Act.{Act}
 use Rattle.path.specs.declared.reader.Act.TheVariants.{Letter as letter, Space as space, First as first, More as more, Point as point, Half as half, Stop as stop}
 use Rattle.path.specs.declared.reader.Stand.{Stand}
 use Rattle.path.specs.declared.pass.Kept.{Kept}
 use Rattle.path.specs.Number.{limit, limit_halves}
-use Rattle.path.specs.Reader.{is_letter, is_digit, on_space, on_letter, act_of, grown, first_large, moved, gained, Part}
+use Rattle.path.specs.Reader.{is_digit, on_space, on_letter, act_of, grown, first_large, moved, gained, Part}
 use Rattle.path.specs.code.Pass.{six_of, kept_of, begins}
-use Rattle.path.proofs.Readings.{choose, digit-small, part, stand_by, Held, held, halted, begin, after_segment, after_letter, after_space, in_number, after_point, after_half}
+use Rattle.path.proofs.Readings.{choose, by-letter, digit-small, part, stand_by, Held, held, halted, begin, after_segment, after_letter, after_space, in_number, after_point, after_half}
 
--- the part with k parts before it
-abbrev pub nth : ℕ → List Part → Part
-nth k [] = part 0 []
-nth k (p ∷ ps) = cond (eqb (length ps) k) p (nth k ps)
+-- the part with k parts before it, if there are more than k
+abbrev pub nth : ℕ → List Part → Option Part
+nth k [] = None
+nth k (p ∷ ps) = cond (eqb (length ps) k) (Some p) (nth k ps)
 
-abbrev pub kept_for : Part → Kept
-kept_for p = record { letter = p.letter; numbers = six_of p.numbers }
+abbrev pub kept_for : Option Part → Kept
+kept_for None = record { command = None; numbers = six_of [] }
+kept_for (Some p) = record { command = Some p.command; numbers = six_of p.numbers }
 
 abbrev pub AllSmall : List ℕ → Type 0
 AllSmall [] = Unit {0}
@@ -57,12 +59,12 @@ pub record Keeps (k : ℕ) (s : Stand) (ps : List Part) (n : ℕ) (kk : Kept) : 
   pub small : s.large ≡ None → SmallParts ps
 
 -- ---- the k-th part
-past : (k : ℕ) (ps : List Part) → length ps ≤ k → nth k ps ≡ part 0 []
+past : (k : ℕ) (ps : List Part) → length ps ≤ k → nth k ps ≡ None
 past k [] h = refl
 past k (p ∷ ps) h = let n : (length ps ≡ k → ⊥) = omega arith in rw (ne_eqb (length ps) k n) (past k ps (omega arith))
 
-module _ (k n : ℕ) (b : ℕ) (hs gs : List ℕ) (ps : List Part) (kk jj : Kept) (c : n ≡ suc (length ps)) (e : kk ≡ kept_for (nth k (part b hs ∷ ps)))
-    (j : kk ≡ kept_for (part b hs) → jj ≡ kept_for (part b gs)) where
+module _ (k n : ℕ) (b : Command) (hs gs : List ℕ) (ps : List Part) (kk jj : Kept) (c : n ≡ suc (length ps)) (e : kk ≡ kept_for (nth k (part b hs ∷ ps)))
+    (j : kk ≡ kept_for (Some (part b hs)) → jj ≡ kept_for (Some (part b gs))) where
   -- the numbers of the last part change
   head-kept : cond (eqb (n + 0) (k + 1)) jj kk ≡ kept_for (nth k (part b gs ∷ ps))
   head-kept = go (eqb (length ps) k) refl
@@ -77,11 +79,11 @@ module _ (k n : ℕ) (b : ℕ) (hs gs : List ℕ) (ps : List Part) (kk jj : Kept
           let m : (n + 0 ≡ k + 1 → ⊥) = omega arith in
           rw (ne_eqb (n + 0) (k + 1) m, z) (e ∙ rw z)
 
-letter-kept : (k n b : ℕ) (ps : List Part) (kk : Kept) → n ≡ length ps → kk ≡ kept_for (nth k ps)
-    → cond (eqb (n + 1) (k + 1)) (record { letter = b; numbers = kk.numbers }) kk ≡ kept_for (nth k (part b [] ∷ ps))
+letter-kept : (k n : ℕ) (b : Command) (ps : List Part) (kk : Kept) → n ≡ length ps → kk ≡ kept_for (nth k ps)
+    → cond (eqb (n + 1) (k + 1)) (record { command = Some b; numbers = kk.numbers }) kk ≡ kept_for (nth k (part b [] ∷ ps))
 letter-kept k n b ps kk c e = go (eqb (length ps) k) refl
   where
-    go : (t : Bool) → eqb (length ps) k ≡ t → cond (eqb (n + 1) (k + 1)) (record { letter = b; numbers = kk.numbers }) kk ≡ kept_for (nth k (part b [] ∷ ps))
+    go : (t : Bool) → eqb (length ps) k ≡ t → cond (eqb (n + 1) (k + 1)) (record { command = Some b; numbers = kk.numbers }) kk ≡ kept_for (nth k (part b [] ∷ ps))
     go true z =
         let i : length ps ≡ k = eqb-true (length ps) k z in
         let m : n + 1 ≡ k + 1 = omega arith in
@@ -125,7 +127,7 @@ module _ (k : ℕ) (s : Stand) (at n : ℕ) (kk : Kept) where
       go true = tt
       go false = tt
 
-  lettered : (b : ℕ) (ps : List Part) → Keeps k s ps n kk → Next k s ps at n kk (letter b)
+  lettered : (b : Command) (ps : List Part) → Keeps k s ps n kk → Next k s ps at n kk (letter b)
   lettered b ps x =
       record {
         counted = omega (arith, x.counted);
@@ -134,22 +136,22 @@ module _ (k : ℕ) (s : Stand) (at n : ℕ) (kk : Kept) where
         small = λ (e : s.large ≡ None). (tt, x.small e);
       }
 
-  begun : (d b : ℕ) (hs : List ℕ) (ps : List Part) → d < 10 → Keeps k s (part b hs ∷ ps) n kk → Next k s (part b hs ∷ ps) at n kk (first d)
+  begun : (d : ℕ) (b : Command) (hs : List ℕ) (ps : List Part) → d < 10 → Keeps k s (part b hs ∷ ps) n kk → Next k s (part b hs ∷ ps) at n kk (first d)
   begun d b hs ps h x =
       record {
         counted = omega (arith, x.counted);
-        kept = λ (e : s.large ≡ None). head-kept k n b hs (2 * d ∷ hs) ps kk (kept_of (first d) d kk) x.counted (x.kept e) (λ (z : kk ≡ kept_for (part b hs)). rw z);
+        kept = λ (e : s.large ≡ None). head-kept k n b hs (2 * d ∷ hs) ps kk (kept_of (first d) d kk) x.counted (x.kept e) (λ (z : kk ≡ kept_for (Some (part b hs))). rw z);
         doubled = λ e. refl;
         small = λ (e : s.large ≡ None). ((omega arith, (x.small e).0), (x.small e).1);
       }
 
-head_small : (b h : ℕ) (hs : List ℕ) (ps : List Part) → SmallParts (part b (h ∷ hs) ∷ ps) → h ≤ limit_halves
+head_small : (b : Command) (h : ℕ) (hs : List ℕ) (ps : List Part) → SmallParts (part b (h ∷ hs) ∷ ps) → h ≤ limit_halves
 head_small b h hs ps y = y.0.0
 
-new-small : (b h g : ℕ) (hs : List ℕ) (ps : List Part) → g ≤ limit_halves → SmallParts (part b (h ∷ hs) ∷ ps) → SmallParts (part b (g ∷ hs) ∷ ps)
+new-small : (b : Command) (h g : ℕ) (hs : List ℕ) (ps : List Part) → g ≤ limit_halves → SmallParts (part b (h ∷ hs) ∷ ps) → SmallParts (part b (g ∷ hs) ∷ ps)
 new-small b h g hs ps l y = ((l, y.0.1), y.1)
 
-module _ (k : ℕ) (s : Stand) (at n : ℕ) (kk : Kept) (b h : ℕ) (hs : List ℕ) (ps : List Part) (x : Keeps k s (part b (h ∷ hs) ∷ ps) n kk) (w : s.large ≡ None → h ≡ 2 * s.value) where
+module _ (k : ℕ) (s : Stand) (at n : ℕ) (kk : Kept) (b : Command) (h : ℕ) (hs : List ℕ) (ps : List Part) (x : Keeps k s (part b (h ∷ hs) ∷ ps) n kk) (w : s.large ≡ None → h ≡ 2 * s.value) where
   -- one more digit of a number that is not too large
   grown-is : (d : ℕ) → s.large ≡ None → (grown s.value d ≡ 10 * s.value + d) × (10 * h + 2 * d ≡ 2 * (10 * s.value + d))
   grown-is d e =
@@ -163,7 +165,7 @@ module _ (k : ℕ) (s : Stand) (at n : ℕ) (kk : Kept) (b h : ℕ) (hs : List �
         kept = λ (e : first_large (ltb limit (grown s.value d)) s.begun s.large ≡ None).
             let o : s.large ≡ None = (not-first (ltb limit (grown s.value d)) s.begun s.large e).1 in
             let q : 2 * grown s.value d ≡ 10 * h + 2 * d = ap (λ (z : ℕ). 2 * z) (grown-is d o).0 ∙ sym (grown-is d o).1 in
-            head-kept k n b (h ∷ hs) ((10 * h + 2 * d) ∷ hs) ps kk (kept_of (more d) (grown s.value d) kk) x.counted (x.kept o) (λ (z : kk ≡ kept_for (part b (h ∷ hs))). rw (z, q));
+            head-kept k n b (h ∷ hs) ((10 * h + 2 * d) ∷ hs) ps kk (kept_of (more d) (grown s.value d) kk) x.counted (x.kept o) (λ (z : kk ≡ kept_for (Some (part b (h ∷ hs)))). rw (z, q));
         doubled = λ (e : first_large (ltb limit (grown s.value d)) s.begun s.large ≡ None).
             let o : s.large ≡ None = (not-first (ltb limit (grown s.value d)) s.begun s.large e).1 in
             (grown-is d o).1 ∙ ap (λ (z : ℕ). 2 * z) (sym (grown-is d o).0);
@@ -183,7 +185,7 @@ module _ (k : ℕ) (s : Stand) (at n : ℕ) (kk : Kept) (b h : ℕ) (hs : List �
         kept = λ (e : first_large (leb limit s.value) s.begun s.large ≡ None).
             let o : s.large ≡ None = (not-first (leb limit s.value) s.begun s.large e).1 in
             let q : 2 * s.value + 1 ≡ h + 1 = omega (arith, w o) in
-            head-kept k n b (h ∷ hs) ((h + 1) ∷ hs) ps kk (kept_of half s.value kk) x.counted (x.kept o) (λ (z : kk ≡ kept_for (part b (h ∷ hs))). rw (z, q));
+            head-kept k n b (h ∷ hs) ((h + 1) ∷ hs) ps kk (kept_of half s.value kk) x.counted (x.kept o) (λ (z : kk ≡ kept_for (Some (part b (h ∷ hs)))). rw (z, q));
         doubled = λ e. tt;
         small = λ (e : first_large (leb limit s.value) s.begun s.large ≡ None).
             let o : s.large ≡ None = (not-first (leb limit s.value) s.begun s.large e).1 in
@@ -197,22 +199,22 @@ module _ (k : ℕ) (s : Stand) (at n : ℕ) (kk : Kept) (c : ℕ) where
   on-space ps x = choose (Next k s ps at n kk) (eqb c 32) (λ e. spaced k s at n kk ps x) (λ e. stopped k s at n kk ps x)
 
   on-letter : (ps : List Part) → Keeps k s ps n kk → Next k s ps at n kk (on_letter c)
-  on-letter ps x = choose (Next k s ps at n kk) (is_letter c) (λ e. lettered k s at n kk c ps x) (λ e. stopped k s at n kk ps x)
+  on-letter ps x = by-letter (Next k s ps at n kk) c (λ (b : Command) e. lettered k s at n kk b ps x) (stopped k s at n kk ps x)
 
-  on-first : (b : ℕ) (hs : List ℕ) (ps : List Part) → Keeps k s (part b hs ∷ ps) n kk → Next k s (part b hs ∷ ps) at n kk (act_of Digit s.value c)
+  on-first : (b : Command) (hs : List ℕ) (ps : List Part) → Keeps k s (part b hs ∷ ps) n kk → Next k s (part b hs ∷ ps) at n kk (act_of Digit s.value c)
   on-first b hs ps x =
       choose (Next k s (part b hs ∷ ps) at n kk) (is_digit c)
       (λ (e : is_digit c ≡ true). begun k s at n kk (c - 48) b hs ps (digit-small c e).0 x)
       (λ e. stopped k s at n kk (part b hs ∷ ps) x)
 
-  on-number : (b h : ℕ) (hs : List ℕ) (ps : List Part) → Keeps k s (part b (h ∷ hs) ∷ ps) n kk → (s.large ≡ None → h ≡ 2 * s.value)
+  on-number : (b : Command) (h : ℕ) (hs : List ℕ) (ps : List Part) → Keeps k s (part b (h ∷ hs) ∷ ps) n kk → (s.large ≡ None → h ≡ 2 * s.value)
       → Next k s (part b (h ∷ hs) ∷ ps) at n kk (act_of Number s.value c)
   on-number b h hs ps x w =
       choose (Next k s (part b (h ∷ hs) ∷ ps) at n kk) (not (eqb s.value 0) && is_digit c)
       (λ e. grew k s at n kk b h hs ps x w (c - 48))
       (λ e. choose (Next k s (part b (h ∷ hs) ∷ ps) at n kk) (eqb c 46) (λ f. pointed k s at n kk b h hs ps x w) (λ f. on-space (part b (h ∷ hs) ∷ ps) x))
 
-  on_point : (b h : ℕ) (hs : List ℕ) (ps : List Part) → Keeps k s (part b (h ∷ hs) ∷ ps) n kk → (s.large ≡ None → h ≡ 2 * s.value)
+  on_point : (b : Command) (h : ℕ) (hs : List ℕ) (ps : List Part) → Keeps k s (part b (h ∷ hs) ∷ ps) n kk → (s.large ≡ None → h ≡ 2 * s.value)
       → Next k s (part b (h ∷ hs) ∷ ps) at n kk (act_of Point s.value c)
   on_point b h hs ps x w =
       choose (Next k s (part b (h ∷ hs) ∷ ps) at n kk) (eqb c 53) (λ e. halved k s at n kk b h hs ps x w) (λ e. stopped k s at n kk (part b (h ∷ hs) ∷ ps) x)

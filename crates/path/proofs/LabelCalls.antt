@@ -2,15 +2,14 @@
 -- Assumes nothing.
 use Prim.Native.Nat.{ℕ, ◌+◌, ◌-◌, ◌*◌, ◌≤◌, ◌<◌}
 use native.Mathlib.Omega.{arith}
-use mathlib.Core.Path.{◌≡◌, refl, ap, subst, ◌∙◌}
+use mathlib.Core.Path.{◌≡◌, refl, sym, ap, subst, ◌∙◌}
 use mathlib.Core.Bool.{Bool, true, false, cond}
 use mathlib.Core.List.{List}
-use lib.Dec.{leb}
 use lib.ListN.{length}
 use borrow.Author.Tests.{le-leb}
 use Rattle.laws.specs.Bytes.{same}
 use Rattle.laws.proofs.Lists.{same_true, same_self}
-use Rattle.std.specs.Prelude.{⊤, Result, Ok, Err}
+use Rattle.std.specs.Prelude.{Result, Ok, Err}
 use Rattle.refusals.specs.declared.Refusal.{Refusal}
 use Rattle.refusals.specs.declared.Refusal.TheVariants.{NotThere}
 use Rattle.chart.specs.declared.Setting.{Setting}
@@ -23,12 +22,11 @@ use Rattle.grid.specs.Labels.{character_width}
 use Rattle.grid.specs.Labelled.{Labelled, ready, refusal, labelled, label_place_of}
 use Rattle.graph.proofs.Gathers.{Bytes}
 use Rattle.grid.proofs.LabelPlaces.{Lies, labelled_lies}
-use Rattle.std.specs.declared.ops.Range.{Range}
 use denote.Ref.{Bor}
 use Rattle.path.specs.declared.PlacedLabel.{PlacedLabel}
 use Rattle.path.specs.declared.LabelSpan.{LabelSpan}
-use Rattle.path.specs.Label.{part_at, text_at, IsAt, stand_in, stand_ins_to, stand_ins, stand_in_span, tabled, placed_in, range_of, in_table, part_in, place_in, label_part_of, LabelText, IsLabelPart, span_of, label_span_of, IsLabelSpan}
-use Rattle.path.proofs.Labels.{stand-ins-long, stand_in_reads, stand_in_within, stand_in_texted, stand_in_counted, span-rises, span-within, ending-most}
+use Rattle.path.specs.Label.{Place, chart, table, part_at, Within, text_at, IsAt, stand_in, stand_ins_to, stand_ins, tabled, placed_in, place_of, place_in, LabelText, IsLabelPart, span_of, span_in, label_span_of, IsLabelSpan}
+use Rattle.path.proofs.Labels.{stand-ins-long, stand_in_reads, stand_in_within, stand_in_texted, stand_in_counted}
 
 -- ---- the table
 pub table-own : (t : List ℕ) → t ≡ stand_ins → same t stand_ins ≡ true
@@ -42,11 +40,6 @@ pub refusal-is : (l : Labelled) (r : Result LabelPlace Refusal) (why : Refusal) 
 refusal-is (ready q) r why e f = let z : ◌≡◌ {A = ℕ} 0 1 = cc in absurd (omega arith)
 refusal-is (refusal u) r why e f = let z : u ≡ why = cc in rw z
 
--- the label that is found, where the table is judged to be the stand-in table; or that it isn't
-pub tabled-found : (t : List ℕ) (l : Labelled) (p : LabelPlace) (b : Bool) → l ≡ ready p → same t stand_ins ≡ b → cond b (Ok p) (Err NotThere) ≡ label_place_of (tabled t l)
-tabled-found t l p true e f = rw (e, f)
-tabled-found t l p false e f = rw (e, f)
-
 pub tabled-ready : (t : List ℕ) (l : Labelled) (p : LabelPlace) → tabled t l ≡ ready p → (l ≡ ready p) × (same t stand_ins ≡ true)
 tabled-ready t (ready q) p e = go (same t stand_ins) refl e
   where
@@ -56,60 +49,38 @@ tabled-ready t (ready q) p e = go (same t stand_ins) refl e
 tabled-ready t (refusal why) p e = let z : ◌≡◌ {A = ℕ} 0 1 = cc in absurd (omega arith)
 
 -- ---- the part
--- the numbers of a place in the chart are of two bytes and of one
-abbrev pub Low : TextPlace → Type 0
-Low (InChart at len) = (at < 65536) × (len < 256)
-Low (InTable q) = ⊤
-
 module _ (w : Setting) (s t : List ℕ) (bytes : Bytes s) (x y k i : ℕ) (r : Result LabelPlace Refusal) (e : r ≡ label_place_of (tabled t (labelled w s x y k i))) (p : LabelPlace) (a : r ≡ Ok p) where
-  pub judged : tabled t (labelled w s x y k i) ≡ ready p
+  judged : tabled t (labelled w s x y k i) ≡ ready p
   judged = label-is (tabled t (labelled w s x y k i)) r p e a
 
-  found : (labelled w s x y k i ≡ ready p) × (same t stand_ins ≡ true)
-  found = tabled-ready t (labelled w s x y k i) p judged
-
-  lies : Lies s p
-  lies = labelled_lies w s bytes x y k i p found.0
-
   pub number_small : (q : ℕ) → p.text ≡ InTable q → q < 287
-  number_small = lies.below
+  number_small = (labelled_lies w s bytes x y k i p (tabled-ready t (labelled w s x y k i) p judged).0).below
 
-  long : length t ≡ 3293
-  long = ap length (same_true t stand_ins found.1) ∙ stand-ins-long
+  pub span-is : (z : LabelSpan) → z ≡ span_of (place_of s p.text) → Ok z ≡ label_span_of s t (labelled w s x y k i)
+  span-is z f = rw (judged, f)
 
-  -- where the part stands
-  pub record Lain (z : TextPlace) (q : Range ℕ) : Type 0 where
-    pub rises : q.start ≤ q.end
-    pub within : q.end ≤ cond (in_table z) (length t) (length s)
-    pub short : Low z → q.end ≤ 66045
+-- a place that lies within is the part of its numbers
+within-part : (m n : ℕ) (q : Place) → Within m n q → part_at (span_of q) m n ≡ q
+within-part m n (chart b e) h = let z : b + (e - b) ≡ e = omega (arith, h.0) in rw (z, le-leb e m h.1)
+within-part m n (table b e) h = let z : b + (e - b) ≡ e = omega (arith, h.0) in rw (z, le-leb e n h.1)
 
-  lain-by : (z : TextPlace) → p.text ≡ z → Lain z (range_of s z)
-  lain-by (InChart at len) f =
-      record { rises = ending-from len s at; within = (lies.whole at len f).inside; short = λ u. omega (arith, u.0, u.1, ending-most len s at) }
-  lain-by (InTable n) f =
-      let h = span-within n (stand_in_span n) refl (lies.below n f) in
-      record { rises = span-rises n (stand_in_span n) refl; within = omega (arith, h, long); short = λ u. omega (arith, h) }
+module _ (s t : List ℕ) where
+  -- the part of the numbers that are answered
+  part-found : (v : Labelled) (z : LabelSpan) → Within (length s) (length t) (place_in s v) → Ok z ≡ span_in s v → part_at z (length s) (length t) ≡ place_in s v
+  part-found (ready p) z h e = let f : z ≡ span_of (place_in s (ready p)) = cc in rw f (within-part (length s) (length t) (place_in s (ready p)) h)
+  part-found (refusal why) z h e = let f : ◌≡◌ {A = ℕ} 0 1 = cc in absurd (omega arith)
 
-  module _ (q : Range ℕ) (h : q ≡ range_of s p.text) where
-    pub lain : Lain p.text q
-    lain = rw h (lain-by p.text refl)
+  -- refused: the empty part at the chart's start
+  part-none : (v : Labelled) (why : Refusal) → Err why ≡ span_in s v → part_at (LabelSpan.InChart 0 0) (length s) (length t) ≡ place_in s v
+  part-none (ready p) why e = let f : ◌≡◌ {A = ℕ} 0 1 = cc in absurd (omega arith)
+  part-none (refusal u) why e = rw (le-leb 0 (length s) (omega arith))
 
-    part-is : part_at (in_table p.text) q.start q.end (length s) (length t) ≡ label_part_of s t (labelled w s x y k i)
-    part-is =
-        let u : leb q.start q.end ≡ true = le-leb q.start q.end lain.rises in
-        let v : leb q.end (cond (in_table p.text) (length t) (length s)) ≡ true = le-leb q.end (cond (in_table p.text) (length t) (length s)) lain.within in
-        rw (u, v, judged, h)
+module _ (s t : Bor (List ℕ)) (l : Labelled) (r : Result LabelSpan Refusal) (e : IsLabelSpan s.now t.now l r) (u : Bor (List ℕ)) where
+  pub found_part : (z : LabelSpan) → r ≡ Ok z → IsAt (part_at z (length s.now) (length t.now)) s t u → IsLabelPart s t l u
+  found_part z a at = record { is = rw (part-found s.now t.now (tabled t.now l) z e.text.within (sym a ∙ e.whole)) at at; text = e.text }
 
-    pub span-is : Ok (record { fixed = in_table p.text; at = q.start; len = q.end - q.start }) ≡ label_span_of s t (labelled w s x y k i)
-    span-is = rw (judged, h) (go (in_table p.text))
-      where
-        go : (b : Bool) → ◌≡◌ {A = Result LabelSpan Refusal} (Ok (record { fixed = b; at = (range_of s p.text).start; len = (range_of s p.text).end - (range_of s p.text).start })) (Ok (span_of (part_in b (range_of s p.text))))
-        go true = refl
-        go false = refl
-
--- refused: the empty part at the chart's start
-pub refused-part : (s : List ℕ) (v : Labelled) (r : Result LabelPlace Refusal) (why : Refusal) (m n : ℕ) → r ≡ label_place_of v → r ≡ Err why → part_at false 0 0 m n ≡ place_in s v
-refused-part s v r why m n e f = rw (refusal-is v r why e f, le-leb 0 m (omega arith))
+  pub no_part : (why : Refusal) → r ≡ Err why → IsAt (part_at (LabelSpan.InChart 0 0) (length s.now) (length t.now)) s t u → IsLabelPart s t l u
+  no_part why a at = record { is = rw (part-none s.now t.now (tabled t.now l) why (sym a ∙ e.whole)) at at; text = e.text }
 
 -- ---- the part: within the chart or the table, text, and as wide as the label
 refused-text : (s t : List ℕ) (why : Refusal) → LabelText s t (refusal why)
@@ -156,16 +127,6 @@ tabled-text s t (refusal why) h b e = refused-text s t why
 
 label_text : (w : Setting) (s t : List ℕ) → Bytes s → (x y k i : ℕ) → LabelText s t (tabled t (labelled w s x y k i))
 label_text w s t bytes x y k i = tabled-text s t (labelled w s x y k i) (λ p e. labelled_lies w s bytes x y k i p e) (same t stand_ins) refl
-
-module _ (w : Setting) (s t : Bor (List ℕ)) (bytes : Bytes s.now) (x y k i : ℕ) (r : Result LabelPlace Refusal) (e : r ≡ label_place_of (tabled t.now (labelled w s.now x y k i))) (u : Bor (List ℕ)) where
-  text : LabelText s.now t.now (tabled t.now (labelled w s.now x y k i))
-  text = label_text w s.now t.now bytes x y k i
-
-  pub found_part : (p : LabelPlace) → r ≡ Ok p → (q : Range ℕ) → q ≡ range_of s.now p.text → IsAt (part_at (in_table p.text) q.start q.end (length s.now) (length t.now)) s t u → IsLabelPart s t (labelled w s.now x y k i) u
-  found_part p a q h at = record { is = rw (part-is w s.now t.now bytes x y k i r e p a q h) at at; text = text }
-
-  pub no_part : (why : Refusal) → r ≡ Err why → IsAt (part_at false 0 0 (length s.now) (length t.now)) s t u → IsLabelPart s t (labelled w s.now x y k i) u
-  no_part why a at = record { is = rw (refused-part s.now (tabled t.now (labelled w s.now x y k i)) r why (length s.now) (length t.now) e a) at at; text = text }
 
 pub is_label_span : (w : Setting) (s t : List ℕ) → Bytes s → (x y k i : ℕ) (r : Result LabelSpan Refusal) → r ≡ label_span_of s t (labelled w s x y k i) → IsLabelSpan s t (labelled w s x y k i) r
 is_label_span w s t bytes x y k i r e = record { whole = e; text = label_text w s t bytes x y k i }

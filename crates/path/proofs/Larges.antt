@@ -12,6 +12,7 @@ use lib.ListN.{length, length-append}
 use Rattle.std.specs.Prelude.{Some, None}
 use Rattle.refusals.specs.declared.TextRefusal.TheVariants.{LargeNumber}
 use Rattle.path.specs.declared.reader.Phase.TheVariants.{Lettered, Digit, Number}
+use Rattle.path.specs.declared.reader.Command.{Command}
 use Rattle.path.specs.declared.reader.Act.{Act}
 use Rattle.path.specs.declared.reader.Act.TheVariants.{Letter as letter, Space as space, First as first, More as more, Point as point, Half as half, Stop as stop, Stay as stay}
 use Rattle.path.specs.declared.reader.Stand.{Stand}
@@ -20,12 +21,12 @@ use Rattle.path.specs.Number.{limit, limit_halves, digits, number_text}
 use Rattle.path.specs.Text as text
 use Rattle.path.specs.Text.{letter_of, numbers_of, numbers_text, segment_text, rest_text, text_of, Small, Smalls}
 use Rattle.path.specs.Profile.{Large, lead_text, text_before, place_of}
-use Rattle.path.specs.Reader.{act, grown, first_large, moved, Part, Reading, step, run_from, unread, run, drawn_all, ended, refused, read}
+use Rattle.path.specs.Reader.{is_move, act, grown, first_large, moved, Part, Reading, step, run_from, unread, run, drawn_all, ended, refused, read}
 use Rattle.path.proofs.Numbers.{digits-tens, text-whole, text-half}
 use Rattle.path.proofs.Words.{numbers-append}
 use Rattle.path.proofs.Backs.{rest-append}
 use Rattle.path.proofs.Readings.{part, read_held, ended-text, refused-told}
-use Rattle.path.proofs.Writings.{run-append, mk, Word, a-digit, digits-read, space-read, number_read, rest_read, letter_wants, part_for, parts_onto}
+use Rattle.path.proofs.Writings.{run-append, mk, Word, a-digit, digits-read, space-read, number_read, rest_read, letter_wants, command_of, part_for, parts_onto}
 use Rattle.path.proofs.Fronts.{text-ended}
 
 -- ---- once a number was too large, its place stays
@@ -48,7 +49,7 @@ run-over [] at r p o = o
 run-over (b ∷ bs) at r p o = run-over bs (suc at) (step at r b) p (moved-over (act r.stand b) at r.stand p o)
 
 -- ---- a number above the limit
-module _ (at l v g : ℕ) (y : Bool) (b : ℕ) (hs : List ℕ) (ps : List Part) where
+module _ (at l v g : ℕ) (y : Bool) (b : Command) (hs : List ℕ) (ps : List Part) where
   -- the reader before its first digit
   abbrev start : Reading
   start = mk Digit (suc l) v g y (part b hs ∷ ps)
@@ -112,7 +113,7 @@ module _ (at l v g : ℕ) (y : Bool) (b : ℕ) (hs : List ℕ) (ps : List Part) 
 -- ---- the reader at the end of a word, with l numbers to come, whatever it has read
 record Somewhere (r : Reading) (l : ℕ) : Type 0 where
   y : Bool
-  b : ℕ
+  b : Command
   hs : List ℕ
   ps : List Part
   word : Word r l y (part b hs ∷ ps)
@@ -158,8 +159,8 @@ large-read h at l r k w =
 first-letter : (d : Drawn) → Somewhere (step 0 unread (letter_of d)) (length (numbers_of d))
 first-letter d =
     record {
-      y = not (eqb (letter_of d) 77);
-      b = letter_of d;
+      y = not (is_move (command_of d));
+      b = command_of d;
       hs = [];
       ps = [];
       word = record { phase = Lettered; value = 0; begun = 0; end = refl; same = rw ((letter_wants d).0, (letter_wants d).1) };
@@ -178,7 +179,7 @@ all_read d ds (text.more s ss) =
     (later ds (part w.b w.hs) w.ps (run_from (rest_text ds) (0 + length (segment_text d)) (run_from (segment_text d) 0 unread)) w.y (rest_read ds ss (0 + length (segment_text d)) w.y (part w.b w.hs ∷ w.ps) (run_from (segment_text d) 0 unread) w.word))
   where
     later : (es : List Drawn) (p : Part) (ps : List Part) (r : Reading) (y : Bool) → Word r 0 y (parts_onto es (p ∷ ps)) → Somewhere r 0
-    later [] p ps r y w = record { y = y; b = p.letter; hs = p.numbers; ps = ps; word = w }
+    later [] p ps r y w = record { y = y; b = p.command; hs = p.numbers; ps = ps; word = w }
     later (e ∷ es) p ps r y w = later es (part_for e) (p ∷ ps) r y w
 
 -- a space and a letter
@@ -186,7 +187,7 @@ next-letter : (d : Drawn) (at : ℕ) (r : Reading) → Somewhere r 0 → Somewhe
 next-letter d at r w =
     record {
       y = w.y;
-      b = letter_of d;
+      b = command_of d;
       hs = [];
       ps = part w.b w.hs ∷ w.ps;
       word =

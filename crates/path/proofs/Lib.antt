@@ -2,6 +2,7 @@
 pub mod Exact
 pub mod Numbers
 pub mod Puts
+pub mod Writers
 pub mod Words
 pub mod Tails
 pub mod Backs

@@ -46,6 +46,13 @@ length-one n h = rw (digits-one n h)
 pub length-tens : (n : ℕ) → 10 ≤ n → length (digits n) ≡ length (digits (n / 10)) + 1
 length-tens n h = rw (digits-tens n h, length-append)
 
+pub length_some : (n : ℕ) → 0 < length (digits n)
+length_some n = go (ltb n 10) refl
+  where
+    go : (b : Bool) → ltb n 10 ≡ b → 0 < length (digits n)
+    go true e = omega (arith, length-one n (ltb-true n 10 e))
+    go false e = omega (arith, length-tens n (ltb-false n 10 e))
+
 -- n has k + 1 digits from 10 ^ k on, up to the next power
 pub length_from : (k n : ℕ) → 10 ^ k ≤ n → n < 10 ^ suc k → length (digits n) ≡ suc k
 length_from zero n h l = length-one n l

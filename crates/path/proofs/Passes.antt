@@ -15,9 +15,9 @@ use Rattle.path.specs.declared.reader.Act.TheVariants.{Letter as letter, Space a
 use Rattle.path.specs.declared.reader.Stand.{Stand}
 use Rattle.path.specs.declared.pass.Pass.{Pass}
 use Rattle.path.specs.Number.{limit}
-use Rattle.path.specs.Reader.{is_letter, is_digit, on_space, on_letter, act_of, act, grown, moved}
+use Rattle.path.specs.Reader.{is_digit, on_space, on_letter, act_of, act, grown, moved}
 use Rattle.path.specs.code.Pass.{begins, passed, pass_to}
-use Rattle.path.proofs.Readings.{choose, both, digit-small}
+use Rattle.path.proofs.Readings.{choose, by-letter, both, digit-small}
 
 pub pass-next : (k : ℕ) (s : List ℕ) (i : ℕ) → pass_to k s (i + 1) ≡ passed k (act (pass_to k s i).stand (get_or s i 0)) i (pass_to k s i)
 unfolding pass_to
@@ -53,7 +53,7 @@ spaced-tens : (b : ℕ) → Tens (on_space b)
 spaced-tens b = choose Tens (eqb b 32) (λ e. tt) (λ e. tt)
 
 letter-tens : (b : ℕ) → Tens (on_letter b)
-letter-tens b = choose Tens (is_letter b) (λ e. tt) (λ e. tt)
+letter-tens b = by-letter Tens b (λ c e. tt) tt
 
 act-tens : (p : Phase) (v b : ℕ) → Tens (act_of p v b)
 act-tens Begin v b = letter-tens b

@@ -1,7 +1,7 @@
 -- Bytes stored one after the other. Assumes nothing.
 use mathlib.Core.Path.{◌≡◌, refl, sym, ap, ◌∙◌}
 use mathlib.Core.List.{List, [], ◌∷◌, ◌++◌}
-use Prim.Native.Nat.{ℕ, suc, ◌+◌, ◌/◌, ◌%◌, ◌≤◌, ◌<◌}
+use Prim.Native.Nat.{ℕ, suc, ◌+◌, ◌≤◌, ◌<◌}
 use native.Mathlib.Numerals.{add-one}
 use native.Mathlib.Omega.{arith}
 use lib.ListN.{length, get_or, take, drop, set, length-append}
@@ -9,9 +9,7 @@ use lib.Seq.{sets, sets-eq, set_comm, length-sets, take-suc, length-take-le}
 use borrow.Author.Tests.{le-leb, lt-leb}
 use Rattle.std.specs.Prelude.{Ok, Err}
 use Rattle.refusals.specs.declared.TextRefusal.TheVariants.{ShortBuffer}
-use Rattle.path.specs.Number.{digits, number_text}
 use Rattle.path.specs.Writer.{put, IsPut, placed, answered}
-use Rattle.path.proofs.Numbers.{text-even, text_odd, length-even, length_odd}
 
 -- a text and another after it
 pub put-append : (s t l : List ℕ) (i : ℕ) → put l i (s ++ t) ≡ put (put l i s) (i + length s) t
@@ -43,23 +41,6 @@ put_next t l at i h =
 -- what `put` is, where it fits: the bytes before, the text, the bytes after
 pub put-parts : (t l : List ℕ) (i : ℕ) → i + length t ≤ length l → put l i t ≡ take i l ++ t ++ drop (i + length t) l
 put-parts t l i h = sets-eq t l i h
-
--- ---- `.5` after the digits, or not
-module _ (l : List ℕ) (at h e : ℕ) (b : List ℕ) (p : e ≡ at + length (digits (h / 2))) (q : b ≡ put l at (digits (h / 2))) where
-  pub put-even : h % 2 ≡ 0 → IsPut l at (number_text h) b e
-  put-even z = record { bytes = q ∙ ap (put l at) (sym (text-even h z)); after = omega (arith, length-even h z) }
-
-  pub put_odd : (h % 2 ≡ 0 → ⊥) → IsPut l at (number_text h) (set (set b e 46) (e + 1) 53) (e + 2)
-  put_odd n =
-      record {
-        after = omega (arith, length_odd h n);
-        bytes =
-            ap (λ (k : ℕ). set (set b e 46) k 53) (add-one e)
-            ∙ ap (λ (k : ℕ). put b k (46 ∷ 53 ∷ [])) p
-            ∙ ap (λ (k : List ℕ). put k (at + length (digits (h / 2))) (46 ∷ 53 ∷ [])) q
-            ∙ sym (put-append (digits (h / 2)) (46 ∷ 53 ∷ []) l at)
-            ∙ ap (put l at) (sym (text_odd h n));
-      }
 
 -- ---- one after the other
 pub then : {l b c s t : List ℕ} {at e f : ℕ} → IsPut l at s b e → IsPut b e t c f → IsPut l at (s ++ t) c f

@@ -12,20 +12,28 @@ use Rattle.refusals.specs.declared.TextRefusal.{TextRefusal}
 use Rattle.refusals.specs.declared.TextRefusal.TheVariants.{TooFar, NotThere, ShortBuffer, NotProfile, LargeNumber, NoMove}
 use Rattle.path.specs.declared.reader.Phase.{Phase}
 use Rattle.path.specs.declared.reader.Phase.TheVariants.{Begin, Letter, Lettered, Digit, Number, Point, Halved, Stopped}
+use Rattle.path.specs.declared.reader.Command.{Command}
 use Rattle.path.specs.declared.reader.Act.{Act}
 use Rattle.path.specs.declared.reader.Act.TheVariants.{Letter as letter, First as first, Half as half, Stop as stop}
 use Rattle.path.specs.declared.reader.Stand.{Stand}
 use Rattle.path.specs.declared.drawn.Drawn.{Drawn}
 use Rattle.path.specs.Number.{digits, number_text}
 use Rattle.path.specs.Text.{text_of}
-use Rattle.path.specs.Reader.{is_letter, is_digit, arity, act_of, on_space, Part, Reading, next, step, run_from, unread, run, drawn_all, ended, broken_at, whole_verdict, verdict_of, given, answer_of, segments, refused, read}
+use Rattle.path.specs.Reader.{is_digit, arity, act_of, on_letter, on_space, Part, Reading, next, step, run_from, unread, run, drawn_all, ended, broken_at, whole_verdict, verdict_of, given, answer_of, segments, refused, read}
 use Rattle.path.proofs.Numbers.{digits-one, digits_more, text-whole, text-half}
-use Rattle.path.proofs.Backs.{front, back, whole, Wholes, none, more as and, back-text}
+use Rattle.path.proofs.Backs.{letter_for, front, back, whole, Wholes, none, more as and, back-text}
 
 -- ---- tests
 pub choose : (P : Act → Type 0) (c : Bool) {x y : Act} → (c ≡ true → P x) → (c ≡ false → P y) → P (cond c x y)
 choose P true f g = f refl
 choose P false f g = g refl
+
+pub by-letter : (P : Act → Type 0) (b : ℕ) → ((c : Command) → b ≡ letter_for c → P (letter c)) → P stop → P (on_letter b)
+by-letter P b f z =
+    choose P (eqb b 77) (λ (e : eqb b 77 ≡ true). f Command.Move (eqb-true b 77 e))
+    (λ e. choose P (eqb b 76) (λ (e : eqb b 76 ≡ true). f Command.Line (eqb-true b 76 e))
+    (λ e. choose P (eqb b 67) (λ (e : eqb b 67 ≡ true). f Command.Cubic (eqb-true b 67 e))
+    (λ e. choose P (eqb b 90) (λ (e : eqb b 90 ≡ true). f Command.Close (eqb-true b 90 e)) (λ e. z))))
 
 pub both : (a b : Bool) → (a && b) ≡ true → (a ≡ true) × (b ≡ true)
 both true true e = (refl, refl)
@@ -51,22 +59,21 @@ tail Halved = []
 tail (Stopped q) = []
 
 -- the last part is b with the numbers hs, and l numbers are to come
-pub record Last (b : ℕ) (hs : List ℕ) (l : ℕ) (ps : List Part) : Type 0 where
-  pub named : is_letter b ≡ true
+pub record Last (b : Command) (hs : List ℕ) (l : ℕ) (ps : List Part) : Type 0 where
   pub counted : length hs + l ≡ arity b
   pub before : Wholes ps
 
-abbrev pub part : ℕ → List ℕ → Part
-part b hs = record { letter = b; numbers = hs }
+abbrev pub part : Command → List ℕ → Part
+part b hs = record { command = b; numbers = hs }
 
 pub data Good : Phase → ℕ → ℕ → List Part → Type 0 where
   begin : {l v : ℕ} → Good Begin l v []
   after_segment : {l v : ℕ} {p : Part} {ps : List Part} → Wholes (p ∷ ps) → Good Letter l v (p ∷ ps)
-  after_letter : {b l v : ℕ} {ps : List Part} → Last b [] l ps → Good Lettered l v (part b [] ∷ ps)
-  after_space : {b l v : ℕ} {hs : List ℕ} {ps : List Part} → Last b hs l ps → 0 < l → Good Digit l v (part b hs ∷ ps)
-  in_number : {b l v h : ℕ} {hs : List ℕ} {ps : List Part} (n : ℕ) → h ≡ 2 * n → ((v ≡ 0 → ⊥) → 0 < n) → Last b (h ∷ hs) l ps → Good Number l v (part b (h ∷ hs) ∷ ps)
-  after_point : {b l v h : ℕ} {hs : List ℕ} {ps : List Part} (n : ℕ) → h ≡ 2 * n → Last b (h ∷ hs) l ps → Good Point l v (part b (h ∷ hs) ∷ ps)
-  after_half : {b l v h : ℕ} {hs : List ℕ} {ps : List Part} → Last b (h ∷ hs) l ps → Good Halved l v (part b (h ∷ hs) ∷ ps)
+  after_letter : {b : Command} {l v : ℕ} {ps : List Part} → Last b [] l ps → Good Lettered l v (part b [] ∷ ps)
+  after_space : {b : Command} {l v : ℕ} {hs : List ℕ} {ps : List Part} → Last b hs l ps → 0 < l → Good Digit l v (part b hs ∷ ps)
+  in_number : {b : Command} {l v h : ℕ} {hs : List ℕ} {ps : List Part} (n : ℕ) → h ≡ 2 * n → ((v ≡ 0 → ⊥) → 0 < n) → Last b (h ∷ hs) l ps → Good Number l v (part b (h ∷ hs) ∷ ps)
+  after_point : {b : Command} {l v h : ℕ} {hs : List ℕ} {ps : List Part} (n : ℕ) → h ≡ 2 * n → Last b (h ∷ hs) l ps → Good Point l v (part b (h ∷ hs) ∷ ps)
+  after_half : {b : Command} {l v h : ℕ} {hs : List ℕ} {ps : List Part} → Last b (h ∷ hs) l ps → Good Halved l v (part b (h ∷ hs) ∷ ps)
 
 -- the bytes t are taken, or one of them was refused
 pub data Held : Phase → ℕ → ℕ → List Part → List ℕ → Type 0 where
@@ -77,14 +84,14 @@ abbrev pub Holds : Reading → List ℕ → Type 0
 Holds r t = Held r.stand.phase r.stand.left r.stand.value r.parts t
 
 -- ---- a space after a word
-space-held : (p : Phase) (b l v c : ℕ) (hs : List ℕ) (ps : List Part) (t : List ℕ) → Last b hs l ps → back (part b hs ∷ ps) ≡ t → c ≡ 32
+space-held : (p : Phase) (b : Command) (l v c : ℕ) (hs : List ℕ) (ps : List Part) (t : List ℕ) → Last b hs l ps → back (part b hs ∷ ps) ≡ t → c ≡ 32
     → Held (cond (eqb l 0) Letter Digit) l v (part b hs ∷ ps) (t ++ c ∷ [])
 space-held p b l v c hs ps t a e s = go (eqb l 0) refl
   where
     go : (z : Bool) → eqb l 0 ≡ z → Held (cond z Letter Digit) l v (part b hs ∷ ps) (t ++ c ∷ [])
     go true z =
         let n : l ≡ 0 = eqb-true l 0 z in
-        held {t = t ++ c ∷ []} (after_segment (and (whole b hs a.named (omega (arith, a.counted))) a.before)) (rw (e, s))
+        held {t = t ++ c ∷ []} (after_segment (and (whole b hs (omega (arith, a.counted))) a.before)) (rw (e, s))
     go false z =
         let n : (l ≡ 0 → ⊥) = eqb-false l 0 z in
         held {t = t ++ c ∷ []} (after_space a (omega arith)) (rw (e, s))
@@ -94,28 +101,28 @@ module _ (s : Stand) (t : List ℕ) (at c : ℕ) where
   abbrev After : List Part → Act → Type 0
   After ps a = Holds (next a at (record { stand = s; parts = ps })) (t ++ c ∷ [])
 
-  spaced : (b : ℕ) (hs : List ℕ) (ps : List Part) → Last b hs s.left ps → back (part b hs ∷ ps) ≡ t → After (part b hs ∷ ps) (on_space c)
+  spaced : (b : Command) (hs : List ℕ) (ps : List Part) → Last b hs s.left ps → back (part b hs ∷ ps) ≡ t → After (part b hs ∷ ps) (on_space c)
   spaced b hs ps a e =
       choose (After (part b hs ∷ ps)) (eqb c 32)
       (λ (z : eqb c 32 ≡ true). space-held s.phase b s.left s.value c hs ps t a e (eqb-true c 32 z))
       (λ (z : eqb c 32 ≡ false). halted)
 
-  lettered : (ps : List Part) → Wholes ps → front ps ≡ t → After ps (cond (is_letter c) (letter c) stop)
+  lettered : (ps : List Part) → Wholes ps → front ps ≡ t → After ps (on_letter c)
   lettered ps w e =
-      choose (After ps) (is_letter c)
-      (λ (z : is_letter c ≡ true). held (after_letter (record { named = z; counted = omega arith; before = w })) (rw (append-nil, e)))
-      (λ (z : is_letter c ≡ false). halted)
+      by-letter (After ps) c
+      (λ (d : Command) (z : c ≡ letter_for d). held (after_letter (record { counted = omega arith; before = w })) (rw (append-nil, e, z)))
+      halted
 
-  begun : (b : ℕ) (hs : List ℕ) (ps : List Part) → Last b hs s.left ps → 0 < s.left → back (part b hs ∷ ps) ++ 32 ∷ [] ≡ t → After (part b hs ∷ ps) (cond (is_digit c) (first (c - 48)) stop)
+  begun : (b : Command) (hs : List ℕ) (ps : List Part) → Last b hs s.left ps → 0 < s.left → back (part b hs ∷ ps) ++ 32 ∷ [] ≡ t → After (part b hs ∷ ps) (cond (is_digit c) (first (c - 48)) stop)
   begun b hs ps a l e =
       choose (After (part b hs ∷ ps)) (is_digit c)
       (λ (z : is_digit c ≡ true).
       let d : (c - 48 < 10) × (48 + (c - 48) ≡ c) = digit-small c z in
-      held (in_number (c - 48) refl (λ n. omega arith) (record { named = a.named; counted = omega (arith, a.counted); before = a.before }))
+      held (in_number (c - 48) refl (λ n. omega arith) (record { counted = omega (arith, a.counted); before = a.before }))
       (rw (text-whole, digits-one (c - 48) d.0, d.1, ← e) (simp (append_assoc, append-nil))))
       (λ (z : is_digit c ≡ false). halted)
 
-  numbered : (b h n : ℕ) (hs : List ℕ) (ps : List Part) → Last b (h ∷ hs) s.left ps → h ≡ 2 * n → ((s.value ≡ 0 → ⊥) → 0 < n) → back (part b (h ∷ hs) ∷ ps) ≡ t
+  numbered : (b : Command) (h n : ℕ) (hs : List ℕ) (ps : List Part) → Last b (h ∷ hs) s.left ps → h ≡ 2 * n → ((s.value ≡ 0 → ⊥) → 0 < n) → back (part b (h ∷ hs) ∷ ps) ≡ t
       → After (part b (h ∷ hs) ∷ ps) (act_of Number s.value c)
   numbered b h n hs ps a w k e =
       choose (After (part b (h ∷ hs) ∷ ps)) (not (eqb s.value 0) && is_digit c)
@@ -125,21 +132,21 @@ module _ (s : Stand) (t : List ℕ) (at c : ℕ) where
       let m : 0 < n = k (eqb-false s.value 0 (not-true (eqb s.value 0) y.0)) in
       let f : 10 * h + 2 * (c - 48) ≡ 2 * (10 * n + (c - 48)) = omega arith in
       let i : number_text h ≡ digits n = ap number_text w ∙ text-whole n in
-      held (in_number (10 * n + (c - 48)) f (λ q. omega arith) (record { named = a.named; counted = a.counted; before = a.before }))
+      held (in_number (10 * n + (c - 48)) f (λ q. omega arith) (record { counted = a.counted; before = a.before }))
       (rw (ap number_text f, text-whole, digits_more n (c - 48) m d.0, d.1, ← e, i) (simp (append_assoc, append-nil))))
       (λ (z : (not (eqb s.value 0) && is_digit c) ≡ false).
       choose (After (part b (h ∷ hs) ∷ ps)) (eqb c 46)
       (λ (y : eqb c 46 ≡ true). held (after_point n w a) (rw (e, eqb-true c 46 y)))
       (λ (y : eqb c 46 ≡ false). spaced b (h ∷ hs) ps a e))
 
-  halved : (b h n : ℕ) (hs : List ℕ) (ps : List Part) → Last b (h ∷ hs) s.left ps → h ≡ 2 * n → back (part b (h ∷ hs) ∷ ps) ++ 46 ∷ [] ≡ t
+  halved : (b : Command) (h n : ℕ) (hs : List ℕ) (ps : List Part) → Last b (h ∷ hs) s.left ps → h ≡ 2 * n → back (part b (h ∷ hs) ∷ ps) ++ 46 ∷ [] ≡ t
       → After (part b (h ∷ hs) ∷ ps) (cond (eqb c 53) half stop)
   halved b h n hs ps a w e =
       choose (After (part b (h ∷ hs) ∷ ps)) (eqb c 53)
       (λ (z : eqb c 53 ≡ true).
       let f : h + 1 ≡ 2 * n + 1 = omega arith in
       let i : number_text h ≡ digits n = ap number_text w ∙ text-whole n in
-      held (after_half (record { named = a.named; counted = a.counted; before = a.before }))
+      held (after_half (record { counted = a.counted; before = a.before }))
       (rw (ap number_text f, text-half, ← e, i, eqb-true c 53 z) (simp (append_assoc, append-nil))))
       (λ (z : eqb c 53 ≡ false). halted)
 
@@ -183,15 +190,15 @@ ended-text p l v ps t (held begin e) z = unfold text_of in e
 ended-text p l v ps t (held (after_segment w) e) z = absurd (false≢true z)
 ended-text p l v ps t (held (after_letter {b = b} {ps = rs} a) e) z =
     let n : l ≡ 0 = eqb-true l 0 z in
-    back-text (part b [] ∷ rs) (and (whole b [] a.named (omega (arith, a.counted))) a.before) ∙ sym (append-nil _) ∙ e
+    back-text (part b [] ∷ rs) (and (whole b [] (omega (arith, a.counted))) a.before) ∙ sym (append-nil _) ∙ e
 ended-text p l v ps t (held (after_space a n) e) z = absurd (false≢true z)
 ended-text p l v ps t (held (in_number {b = b} {h = h} {hs = hs} {ps = rs} n w k a) e) z =
     let i : l ≡ 0 = eqb-true l 0 z in
-    back-text (part b (h ∷ hs) ∷ rs) (and (whole b (h ∷ hs) a.named (omega (arith, a.counted))) a.before) ∙ sym (append-nil _) ∙ e
+    back-text (part b (h ∷ hs) ∷ rs) (and (whole b (h ∷ hs) (omega (arith, a.counted))) a.before) ∙ sym (append-nil _) ∙ e
 ended-text p l v ps t (held (after_point n w a) e) z = absurd (false≢true z)
 ended-text p l v ps t (held (after_half {b = b} {h = h} {hs = hs} {ps = rs} a) e) z =
     let i : l ≡ 0 = eqb-true l 0 z in
-    back-text (part b (h ∷ hs) ∷ rs) (and (whole b (h ∷ hs) a.named (omega (arith, a.counted))) a.before) ∙ sym (append-nil _) ∙ e
+    back-text (part b (h ∷ hs) ∷ rs) (and (whole b (h ∷ hs) (omega (arith, a.counted))) a.before) ∙ sym (append-nil _) ∙ e
 ended-text p l v ps t halted z = absurd (false≢true z)
 
 -- ---- what an answer says of the stand

@@ -13,8 +13,8 @@ use Rattle.path.specs.declared.drawn.Drawn.{Drawn}
 use Rattle.path.specs.declared.Segment.{Segment}
 use Rattle.path.specs.Drawn.{InRange, segment_of}
 use Rattle.path.specs.Text.{text_of}
-use Rattle.path.specs.Reader.{run, verdict_of, given, drawn_from, drawn_all, segments, refused, read}
-use Rattle.path.specs.code.Pass.{pass_to}
+use Rattle.path.specs.Reader.{run, verdict_of, given, drawn_all, segments, refused, read}
+use Rattle.path.specs.code.Pass.{pass_to, drawn_kept}
 use Rattle.path.specs.Writer.{put}
 use Rattle.path.specs.Answers.{count_of, given_of, written_of, left_of}
 use Rattle.path.proofs.Readings.{read-text}
@@ -45,13 +45,13 @@ module _ (k : ℕ) (s : List ℕ) (m : Pass) (v : Result (Unit {0}) TextRefusal)
     pub given-none : m.count ≤ k → Err NotThere ≡ given_of k (read s)
     given-none h = let l : length (drawn_all (run s).parts) ≤ k = omega (arith, count-given k s m v e f) in rw (read-fine, le-ltb k (length (drawn_all (run s).parts)) l)
 
-    pub given-some : k < m.count → (d : Drawn) (g : Segment) → d ≡ drawn_from m.kept.letter m.kept.numbers → g ≡ segment_of d → Ok g ≡ given_of k (read s)
+    pub given-some : k < m.count → (d : Drawn) (g : Segment) → d ≡ drawn_kept m.kept → g ≡ segment_of d → Ok g ≡ given_of k (read s)
     given-some h d g i j =
         let l : k < length (drawn_all (run s).parts) = omega (arith, count-given k s m v e f) in
         rw (read-fine, lt-ltb k (length (drawn_all (run s).parts)) l)
         (ap Ok (j ∙ ap segment_of (i ∙ kept-given k s m v e f r h)))
 
-    pub given_range : (d : Drawn) → d ≡ drawn_from m.kept.letter m.kept.numbers → InRange d
+    pub given_range : (d : Drawn) → d ≡ drawn_kept m.kept → InRange d
     given_range d i = rw i (range_given k s m v e f r)
 
     same_text : text_of (drawn_all (run s).parts) ≡ s

@@ -8,19 +8,20 @@ use borrow.Author.Tests.{eqb-true, eqb-false}
 use lib.Dec.{eqb}
 use lib.ListN.{length, get_or, take, length-append, get_or-append}
 use lib.Seq.{take-suc, take-length, length-take-le, get_or_at}
-use Rattle.std.specs.Prelude.{None, Result, Ok}
+use Rattle.std.specs.Prelude.{Some, None, Result, Ok}
 use Rattle.refusals.specs.declared.TextRefusal.{TextRefusal}
+use Rattle.path.specs.declared.reader.Command.{Command}
 use Rattle.path.specs.declared.reader.Stand.{Stand}
 use Rattle.path.specs.declared.pass.Pass.{Pass}
 use Rattle.path.specs.declared.drawn.Drawn.{Drawn}
-use Rattle.path.specs.declared.drawn.Drawn.TheVariants.{Move, Line, Cubic, Close}
+use Rattle.path.specs.declared.drawn.Drawn.TheVariants.{Move}
 use Rattle.path.specs.Number.{limit_halves}
 use Rattle.path.specs.Drawn.{InRange}
 use Rattle.path.specs.Reader.{Part, Reading, step, run_from, unread, run, verdict_of, given, drawn_from, part_of, drawn_all, read, act, moved, gained}
-use Rattle.path.specs.code.Pass.{pass_to, passed, begins, kept_of}
+use Rattle.path.specs.code.Pass.{six_of, pass_to, passed, begins, kept_of, drawn_kept}
 use Rattle.path.proofs.Readings.{Holds, read_held, fine-told}
 use Rattle.path.proofs.Writings.{run-append}
-use Rattle.path.proofs.Keeps.{nth, AllSmall, SmallParts, Keeps, step_keeps}
+use Rattle.path.proofs.Keeps.{nth, kept_for, AllSmall, SmallParts, Keeps, step_keeps}
 
 -- ---- the reader after i + 1 bytes
 pub read_next : (s : List ℕ) (i : ℕ) → i < length s → run (take (suc i) s) ≡ step i (run (take i s)) (get_or s i 0)
@@ -61,12 +62,19 @@ length-drawn : (ps : List Part) → length (drawn_all ps) ≡ length ps
 length-drawn [] = refl
 length-drawn (p ∷ ps) = omega (arith, length-append (drawn_all ps) (part_of p ∷ []), length-drawn ps)
 
-nth-drawn : (ps : List Part) (k : ℕ) (d : Drawn) → k < length ps → get_or (drawn_all ps) k d ≡ part_of (nth k ps)
+-- six numbers are enough
+six-drawn : (c : Command) (hs : List ℕ) → drawn_from c hs ≡ drawn_from c (six_of hs)
+six-drawn Command.Move hs = refl
+six-drawn Command.Line hs = refl
+six-drawn Command.Cubic hs = refl
+six-drawn Command.Close hs = refl
+
+nth-drawn : (ps : List Part) (k : ℕ) (d : Drawn) → k < length ps → get_or (drawn_all ps) k d ≡ drawn_kept (kept_for (nth k ps))
 nth-drawn [] k d h = absurd (omega arith)
 nth-drawn (p ∷ ps) k d h = go (eqb (length ps) k) refl (λ (z : k < length ps). nth-drawn ps k d z)
   where
-    go : (t : Bool) → eqb (length ps) k ≡ t → (k < length ps → get_or (drawn_all ps) k d ≡ part_of (nth k ps)) → get_or (drawn_all ps ++ part_of p ∷ []) k d ≡ part_of (nth k (p ∷ ps))
-    go true e i = rw e (get_or_at (drawn_all ps) (part_of p) [] d k (length-drawn ps ∙ eqb-true (length ps) k e))
+    go : (t : Bool) → eqb (length ps) k ≡ t → (k < length ps → get_or (drawn_all ps) k d ≡ drawn_kept (kept_for (nth k ps))) → get_or (drawn_all ps ++ part_of p ∷ []) k d ≡ drawn_kept (kept_for (nth k (p ∷ ps)))
+    go true e i = rw e (get_or_at (drawn_all ps) (part_of p) [] d k (length-drawn ps ∙ eqb-true (length ps) k e) ∙ six-drawn p.command p.numbers)
     go false e i =
         let n : (length ps ≡ k → ⊥) = eqb-false (length ps) k e in
         rw e (get_or-append (drawn_all ps) (part_of p ∷ []) d k (omega (arith, length-drawn ps)) ∙ i (omega arith))
@@ -76,24 +84,24 @@ get_d_small [] i h = omega arith
 get_d_small (x ∷ hs) zero h = h.0
 get_d_small (x ∷ hs) (suc i) h = get_d_small hs i h.1
 
-pub drawn_range : (b : ℕ) (hs : List ℕ) → AllSmall hs → InRange (drawn_from b hs)
-drawn_range b hs h = go (eqb b 77) (eqb b 76) (eqb b 67)
+pub drawn_range : (c : Command) (hs : List ℕ) → AllSmall hs → InRange (drawn_from c hs)
+drawn_range c hs h = go c
   where
     at : (i : ℕ) → get_or hs i 0 ≤ limit_halves
     at i = get_d_small hs i h
 
-    go : (m l c : Bool) → InRange (cond m (Move (get_or hs 1 0) (get_or hs 0 0)) (cond l (Line (get_or hs 1 0) (get_or hs 0 0)) (cond c (Cubic (get_or hs 5 0) (get_or hs 4 0) (get_or hs 3 0) (get_or hs 2 0) (get_or hs 1 0) (get_or hs 0 0)) Close)))
-    go true l c = (at 1, at 0)
-    go false true c = (at 1, at 0)
-    go false false true = (at 5, at 4, at 3, at 2, at 1, at 0)
-    go false false false = tt
+    go : (c : Command) → InRange (drawn_from c hs)
+    go Command.Move = (at 1, at 0)
+    go Command.Line = (at 1, at 0)
+    go Command.Cubic = (at 5, at 4, at 3, at 2, at 1, at 0)
+    go Command.Close = tt
 
-nth_range : (ps : List Part) (k : ℕ) → SmallParts ps → InRange (part_of (nth k ps))
+nth_range : (ps : List Part) (k : ℕ) → SmallParts ps → InRange (drawn_kept (kept_for (nth k ps)))
 nth_range [] k h = tt
 nth_range (p ∷ ps) k h = go (eqb (length ps) k) (nth_range ps k h.1)
   where
-    go : (t : Bool) → InRange (part_of (nth k ps)) → InRange (part_of (cond t p (nth k ps)))
-    go true i = drawn_range p.letter p.numbers h.0
+    go : (t : Bool) → InRange (drawn_kept (kept_for (nth k ps))) → InRange (drawn_kept (kept_for (cond t (Some p) (nth k ps))))
+    go true i = subst InRange (six-drawn p.command p.numbers) (drawn_range p.command p.numbers h.0)
     go false i = i
 
 -- ---- the verdict
@@ -116,10 +124,10 @@ module _ (k : ℕ) (s : List ℕ) (m : Pass) (v : Result (Unit {0}) TextRefusal)
     not_over : (run s).stand.large ≡ None
     not_over = (fine-told (length s) (run s).stand (sym (f ∙ ap (verdict_of (length s)) same-stand) ∙ fine)).1
 
-    pub kept-given : k < m.count → drawn_from m.kept.letter m.kept.numbers ≡ get_or (drawn_all (run s).parts) k (Move 0 0)
+    pub kept-given : k < m.count → drawn_kept m.kept ≡ get_or (drawn_all (run s).parts) k (Move 0 0)
     kept-given h = rw (keeps-all.kept not_over) (sym (nth-drawn (run s).parts k (Move 0 0) (omega (arith, keeps-all.counted))))
 
-    pub range_given : InRange (drawn_from m.kept.letter m.kept.numbers)
+    pub range_given : InRange (drawn_kept m.kept)
     range_given = rw (keeps-all.kept not_over) (nth_range (run s).parts k (keeps-all.small not_over))
 
 -- no number of what is read is above the limit, where none was marked

@@ -12,11 +12,13 @@ use Rattle.laws.proofs.Tests.{and_false}
 use Rattle.std.specs.Prelude.{None}
 use Rattle.path.specs.declared.reader.Phase.{Phase}
 use Rattle.path.specs.declared.reader.Phase.TheVariants.{Begin, Letter, Lettered, Digit, Number, Point, Halved, Stopped}
+use Rattle.path.specs.declared.reader.Command.{Command}
+use Rattle.path.specs.declared.reader.Act.TheVariants.{Letter as letter}
 use Rattle.path.specs.declared.drawn.Drawn.{Drawn}
 use Rattle.path.specs.declared.drawn.Drawn.TheVariants.{Move, Line, Cubic, Close}
 use Rattle.path.specs.Number.{limit, limit_halves, digits, number_text}
 use Rattle.path.specs.Text.{letter_of, numbers_of, numbers_text, segment_text, rest_text, text_of, Small, none, more, Smalls, Led, move}
-use Rattle.path.specs.Reader.{is_letter, is_digit, arity, Part, Reading, step, run_from, unread, run, part_of, drawn_all, answer_of, segments, read}
+use Rattle.path.specs.Reader.{is_digit, arity, on_letter, Part, Reading, step, run_from, unread, run, part_of, drawn_all, answer_of, segments, read}
 use Rattle.path.proofs.Numbers.{digits-one, digits-tens, text-whole, text-half}
 use Rattle.path.proofs.Readings.{part, stand_by}
 
@@ -32,7 +34,7 @@ mk p l v g y ps = record { stand = stand_by p l v g None y; parts = ps }
 pub a-digit : (d : ℕ) → d < 10 → is_digit (48 + d) ≡ true
 a-digit d h = rw (le-leb 48 (48 + d) (omega arith), le-leb (48 + d) 57 (omega arith))
 
-pub digits-read : (f n at l v g : ℕ) (y : Bool) (b : ℕ) (hs : List ℕ) (ps : List Part) → n < f → n ≤ limit
+pub digits-read : (f n at l v g : ℕ) (y : Bool) (b : Command) (hs : List ℕ) (ps : List Part) → n < f → n ≤ limit
     → run_from (digits n) at (mk Digit (suc l) v g y (part b hs ∷ ps)) ≡ mk Number l n at y (part b (2 * n ∷ hs) ∷ ps)
 digits-read zero n at l v g y b hs ps h k = absurd (omega arith)
 digits-read (suc f) n at l v g y b hs ps h k =
@@ -89,12 +91,12 @@ space-read Halved at l v g y ps e = refl
 space-read (Stopped k) at l v g y ps e = absurd (false≢true e)
 
 -- `.5` after a whole number below the limit
-pub half-read : (n at l g : ℕ) (y : Bool) (b : ℕ) (hs : List ℕ) (ps : List Part) → n < limit
+pub half-read : (n at l g : ℕ) (y : Bool) (b : Command) (hs : List ℕ) (ps : List Part) → n < limit
     → run_from (46 ∷ 53 ∷ []) at (mk Number l n g y (part b (2 * n ∷ hs) ∷ ps)) ≡ mk Halved l n g y (part b ((2 * n + 1) ∷ hs) ∷ ps)
 half-read n at l g y b hs ps h = rw (and_false (not (eqb n 0)), lt-leb limit n h)
 
 -- a space and a number
-pub number_read : (h at l : ℕ) (y : Bool) (b : ℕ) (hs : List ℕ) (ps : List Part) (r : Reading) → h ≤ limit_halves → Word r (suc l) y (part b hs ∷ ps)
+pub number_read : (h at l : ℕ) (y : Bool) (b : Command) (hs : List ℕ) (ps : List Part) (r : Reading) → h ≤ limit_halves → Word r (suc l) y (part b hs ∷ ps)
     → Word (run_from (32 ∷ number_text h) at r) l y (part b (h ∷ hs) ∷ ps)
 number_read h at l y b hs ps r k w = go (h % 2) refl (omega arith)
   where
@@ -143,7 +145,7 @@ abbrev pub onto : List ℕ → List ℕ → List ℕ
 onto [] hs = hs
 onto (k ∷ ks) hs = onto ks (k ∷ hs)
 
-pub numbers-read : (ks : List ℕ) → Small ks → (at : ℕ) (y : Bool) (b : ℕ) (hs : List ℕ) (ps : List Part) (r : Reading) → Word r (length ks) y (part b hs ∷ ps)
+pub numbers-read : (ks : List ℕ) → Small ks → (at : ℕ) (y : Bool) (b : Command) (hs : List ℕ) (ps : List Part) (r : Reading) → Word r (length ks) y (part b hs ∷ ps)
     → Word (run_from (numbers_text ks) at r) 0 y (part b (onto ks hs) ∷ ps)
 numbers-read [] none at y b hs ps r w = w
 numbers-read (k ∷ ks) (more s ss) at y b hs ps r w =
@@ -152,10 +154,16 @@ numbers-read (k ∷ ks) (more s ss) at y b hs ps r w =
     (number_read k at (length ks) y b hs ps r s w))
 
 -- ---- a segment
-abbrev pub part_for : Drawn → Part
-part_for d = part (letter_of d) (onto (numbers_of d) [])
+abbrev pub command_of : Drawn → Command
+command_of (Move x y) = Command.Move
+command_of (Line x y) = Command.Line
+command_of (Cubic a b c e f g) = Command.Cubic
+command_of Close = Command.Close
 
-pub letter_wants : (d : Drawn) → (is_letter (letter_of d) ≡ true) × (arity (letter_of d) ≡ length (numbers_of d))
+abbrev pub part_for : Drawn → Part
+part_for d = part (command_of d) (onto (numbers_of d) [])
+
+pub letter_wants : (d : Drawn) → (on_letter (letter_of d) ≡ letter (command_of d)) × (arity (command_of d) ≡ length (numbers_of d))
 letter_wants (Move a b) = (refl, refl)
 letter_wants (Line a b) = (refl, refl)
 letter_wants (Cubic a b c e f g) = (refl, refl)
@@ -171,7 +179,7 @@ part_for_lem Close = refl
 later-read : (d : Drawn) → Small (numbers_of d) → (at : ℕ) (y : Bool) (ps : List Part) (r : Reading) → Word r 0 y ps
     → Word (run_from (32 ∷ segment_text d) at r) 0 y (part_for d ∷ ps)
 later-read d s at y ps r w =
-    numbers-read (numbers_of d) s (suc (suc at)) y (letter_of d) [] ps (step (suc at) (step at r 32) (letter_of d))
+    numbers-read (numbers_of d) s (suc (suc at)) y (command_of d) [] ps (step (suc at) (step at r 32) (letter_of d))
     (record {
       phase = Lettered;
       value = w.value;
@@ -219,5 +227,5 @@ written_read xs (move {x = a} {y = b} {ds = ds}) (more s ss) =
     word-answer (length (segment_text (Move a b) ++ rest_text ds)) (parts_onto ds (part_for (Move a b) ∷ [])) (run_from (segment_text (Move a b) ++ rest_text ds) 0 unread)
     (rw (run-append (segment_text (Move a b)) (rest_text ds) 0 unread)
     (rest_read ds ss (0 + length (segment_text (Move a b))) false (part_for (Move a b) ∷ []) (run_from (segment_text (Move a b)) 0 unread)
-    (numbers-read (a ∷ b ∷ []) s 1 false 77 [] [] (step 0 unread 77) (record { phase = Lettered; value = 0; begun = 0; end = refl; same = refl }))))
+    (numbers-read (a ∷ b ∷ []) s 1 false Command.Move [] [] (step 0 unread 77) (record { phase = Lettered; value = 0; begun = 0; end = refl; same = refl }))))
     ∙ ap segments (drawn-onto ds (part_for (Move a b) ∷ []))

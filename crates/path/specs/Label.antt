@@ -2,7 +2,7 @@
 -- 'the stand-in table gains `#1(invalid)` to `#255(invalid)` after `#31`' (document 02, L5).
 -- A part is of bytes, both bytes of a degree sign among them.
 -- Assumes nothing.
-use Rattle.std.specs.Prelude.{ℕ, zero, suc, ◌+◌, ◌-◌, ◌*◌, ◌≤◌, ◌≡◌, Bool, true, false, cond, ◌&&◌, List, [], ◌∷◌, ◌++◌, leb, ltb, length, take, drop, Result, Ok, Err}
+use Rattle.std.specs.Prelude.{ℕ, zero, suc, ◌+◌, ◌-◌, ◌*◌, ◌≤◌, ◌≡◌, cond, List, [], ◌∷◌, ◌++◌, leb, ltb, length, take, drop, Result, Ok, Err}
 use Rattle.std.specs.Borrow.{Bor}
 use Rattle.laws.specs.Bytes.{ascii, same}
 use Rattle.refusals.specs.declared.Refusal.{Refusal}
@@ -26,8 +26,9 @@ pub data Place : Type 0 where
   chart table : ℕ → ℕ → Place
 
 -- the place that is asked for where it lies within, and else 'the empty one at the chart's start'; m and n are the lengths of chart and table
-abbrev pub part_at : Bool → ℕ → ℕ → ℕ → ℕ → Place
-part_at fixed a e m n = cond (leb a e && leb e (cond fixed n m)) (cond fixed (table a e) (chart a e)) (chart 0 0)
+abbrev pub part_at : LabelSpan → ℕ → ℕ → Place
+part_at (LabelSpan.InChart at len) m n = cond (leb (at + len) m) (chart at (at + len)) (chart 0 0)
+part_at (LabelSpan.InTable at len) m n = cond (leb (at + len) n) (table at (at + len)) (chart 0 0)
 
 -- the place lies within a chart of m bytes, or a table of n
 abbrev pub Within : ℕ → ℕ → Place → Type 0
@@ -85,21 +86,13 @@ abbrev pub placed_label_of : List ℕ → Labelled → Result PlacedLabel Refusa
 placed_label_of t l = placed_in (tabled t l)
 
 -- where a label's text stands: in the chart s so many characters, in the table its fixed text
-abbrev pub range_of : List ℕ → TextPlace → Range ℕ
-range_of s (InChart at len) = record { start = at; end = ending len s at }
-range_of s (InTable q) = stand_in_span q
-
--- which of the two it is
-abbrev pub in_table : TextPlace → Bool
-in_table (InChart at len) = false
-in_table (InTable q) = true
-
-abbrev pub part_in : Bool → Range ℕ → Place
-part_in fixed r = cond fixed (table r.start r.end) (chart r.start r.end)
+abbrev pub place_of : List ℕ → TextPlace → Place
+place_of s (InChart at len) = chart at (ending len s at)
+place_of s (InTable q) = table (stand_in_span q).start (stand_in_span q).end
 
 -- 'the other the part, which if refused is the empty one at the chart's start'
 abbrev pub place_in : List ℕ → Labelled → Place
-place_in s (ready p) = part_in (in_table p.text) (range_of s p.text)
+place_in s (ready p) = place_of s p.text
 place_in s (refusal why) = chart 0 0
 
 abbrev pub label_part_of : List ℕ → List ℕ → Labelled → Place
@@ -123,8 +116,8 @@ pub record IsLabelPart (s t : Bor (List ℕ)) (l : Labelled) (r : Bor (List ℕ)
 
 -- the same part in numbers, for a caller that can't be handed a part: where it begins in the chart or in the table, and how many bytes it has
 abbrev pub span_of : Place → LabelSpan
-span_of (chart b e) = record { fixed = false; at = b; len = e - b }
-span_of (table b e) = record { fixed = true; at = b; len = e - b }
+span_of (chart b e) = LabelSpan.InChart b (e - b)
+span_of (table b e) = LabelSpan.InTable b (e - b)
 
 abbrev pub span_in : List ℕ → Labelled → Result LabelSpan Refusal
 span_in s (ready p) = Ok (span_of (place_in s (ready p)))

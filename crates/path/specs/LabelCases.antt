@@ -1,6 +1,6 @@
 -- Labels through the whole definition, from the chart's bytes: what both calls answer. One table, one computed test. The numbers are the Rust's.
 -- Assumes nothing.
-use Rattle.std.specs.Prelude.{ℕ, ◌+◌, ◌≡◌, refl, Bool, true, cond, ◌&&◌, List, [], ◌∷◌, ◌++◌, take, drop, Result, Ok, Err}
+use Rattle.std.specs.Prelude.{ℕ, ◌+◌, ◌≡◌, refl, Bool, true, ◌&&◌, List, [], ◌∷◌, ◌++◌, take, drop, Result, Ok, Err}
 use Prim.Native.String.{String}
 use Rattle.laws.specs.Bytes.{ascii, hex, all_of, same}
 use Rattle.laws.specs.Each.{each}
@@ -48,7 +48,8 @@ start = 0 ∷ 0 ∷ 0 ∷ []
 
 -- the same of a span; refused, there is none
 abbrev span_spot : Result LabelSpan Refusal → List ℕ
-span_spot (Ok r) = cond r.fixed 1 0 ∷ r.at ∷ (r.at + r.len) ∷ []
+span_spot (Ok (LabelSpan.InChart at len)) = 0 ∷ at ∷ (at + len) ∷ []
+span_spot (Ok (LabelSpan.InTable at len)) = 1 ∷ at ∷ (at + len) ∷ []
 span_spot (Err why) = start
 
 -- the stand-in table; with its last byte changed; one byte shorter; `#0` to `#31` alone; nothing

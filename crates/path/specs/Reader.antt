@@ -1,9 +1,10 @@
 -- The reader: 'A reader of this profile goes left to right'.
-use Rattle.std.specs.Prelude.{Bool, true, false, cond, not, ◌&&◌, ◌||◌, List, [], ◌∷◌, ◌++◌, ℕ, suc, ◌+◌, ◌-◌, ◌*◌, eqb, leb, ltb, length, get_or, Option, Some, None, Result, Ok, Err}
+use Rattle.std.specs.Prelude.{Bool, true, false, cond, not, ◌&&◌, List, [], ◌∷◌, ◌++◌, ℕ, suc, ◌+◌, ◌-◌, ◌*◌, eqb, leb, ltb, length, get_or, Option, Some, None, Result, Ok, Err}
 use Rattle.refusals.specs.declared.TextRefusal.{TextRefusal}
 use Rattle.refusals.specs.declared.TextRefusal.TheVariants.{NotProfile, LargeNumber, NoMove}
 use Rattle.path.specs.declared.reader.Phase.{Phase}
 use Rattle.path.specs.declared.reader.Phase.TheVariants.{Begin, Letter, Lettered, Digit, Number, Point, Halved, Stopped}
+use Rattle.path.specs.declared.reader.Command.{Command}
 use Rattle.path.specs.declared.reader.Act.{Act}
 use Rattle.path.specs.declared.reader.Act.TheVariants.{Letter as letter, Space as space, First as first, More as more, Point as point, Half as half, Stop as stop, Stay as stay}
 use Rattle.path.specs.declared.reader.Stand.{Stand}
@@ -12,19 +13,31 @@ use Rattle.path.specs.declared.drawn.Drawn.TheVariants.{Move, Line, Cubic, Close
 use Rattle.path.specs.Number.{limit}
 
 -- ---- bytes
-abbrev pub is_letter : ℕ → Bool
-is_letter b = eqb b 77 || (eqb b 76 || (eqb b 67 || eqb b 90))
-
 abbrev pub is_digit : ℕ → Bool
 is_digit b = leb 48 b && leb b 57
 
--- how many numbers a letter wants
-abbrev pub arity : ℕ → ℕ
-arity b = cond (eqb b 67) 6 (cond (eqb b 90) 0 2)
+-- ---- commands
+-- 'M or L and two numbers, C and six, Z and none'
+abbrev pub arity : Command → ℕ
+arity Command.Move = 2
+arity Command.Line = 2
+arity Command.Cubic = 6
+arity Command.Close = 0
+
+abbrev pub is_move : Command → Bool
+is_move Command.Move = true
+is_move Command.Line = false
+is_move Command.Cubic = false
+is_move Command.Close = false
 
 -- ---- what a byte is to the reader, by where it stands
+-- M, L, C or Z
 abbrev pub on_letter : ℕ → Act
-on_letter b = cond (is_letter b) (letter b) stop
+on_letter b =
+    cond (eqb b 77) (letter Command.Move)
+    (cond (eqb b 76) (letter Command.Line)
+    (cond (eqb b 67) (letter Command.Cubic)
+    (cond (eqb b 90) (letter Command.Close) stop)))
 
 abbrev pub on_space : ℕ → Act
 on_space b = cond (eqb b 32) space stop
@@ -79,7 +92,7 @@ abbrev pub standing : Stand → Phase → Stand
 standing s p = record { phase = p; left = s.left; value = s.value; begun = s.begun; large = s.large; other = s.other }
 
 abbrev pub moved : Act → ℕ → Stand → Stand
-moved (letter b) at s = record { phase = Lettered; left = arity b; value = s.value; begun = s.begun; large = s.large; other = cond (is_begin s.phase) (not (eqb b 77)) s.other }
+moved (letter c) at s = record { phase = Lettered; left = arity c; value = s.value; begun = s.begun; large = s.large; other = cond (is_begin s.phase) (not (is_move c)) s.other }
 moved space at s = standing s (cond (eqb s.left 0) Letter Digit)
 moved (first d) at s = record { phase = Number; left = s.left - 1; value = d; begun = at; large = s.large; other = s.other }
 moved (more d) at s = marked (ltb limit (grown s.value d)) (record { phase = Number; left = s.left; value = grown s.value d; begun = s.begun; large = s.large; other = s.other })
@@ -88,9 +101,9 @@ moved half at s = marked (leb limit s.value) (standing s Halved)
 moved stop at s = standing s (Stopped at)
 moved stay at s = s
 
--- ---- what is read: the segments so far, the latest first; of each its letter and its numbers in halves, the latest first
+-- ---- what is read: the segments so far, the latest first; of each its command and its numbers in halves, the latest first
 pub record Part : Type 0 where
-  pub letter : ℕ
+  pub command : Command
   pub numbers : List ℕ
 
 abbrev pub on_last : (ℕ → ℕ) → List ℕ → List ℕ
@@ -99,10 +112,10 @@ on_last f (h ∷ hs) = f h ∷ hs
 
 abbrev pub on_part : (List ℕ → List ℕ) → List Part → List Part
 on_part f [] = []
-on_part f (p ∷ ps) = record { letter = p.letter; numbers = f p.numbers } ∷ ps
+on_part f (p ∷ ps) = record { command = p.command; numbers = f p.numbers } ∷ ps
 
 abbrev pub gained : Act → List Part → List Part
-gained (letter b) ps = record { letter = b; numbers = [] } ∷ ps
+gained (letter c) ps = record { command = c; numbers = [] } ∷ ps
 gained space ps = ps
 gained (first d) ps = on_part (λ hs. 2 * d ∷ hs) ps
 gained (more d) ps = on_part (on_last (λ h. 10 * h + 2 * d)) ps
@@ -137,14 +150,14 @@ unfoldable pub run : List ℕ → Reading
 run s = run_from s 0 unread
 
 -- ---- the segments of the parts
-abbrev pub drawn_from : ℕ → List ℕ → Drawn
-drawn_from b hs =
-    cond (eqb b 77) (Move (get_or hs 1 0) (get_or hs 0 0))
-    (cond (eqb b 76) (Line (get_or hs 1 0) (get_or hs 0 0))
-    (cond (eqb b 67) (Cubic (get_or hs 5 0) (get_or hs 4 0) (get_or hs 3 0) (get_or hs 2 0) (get_or hs 1 0) (get_or hs 0 0)) Close))
+abbrev pub drawn_from : Command → List ℕ → Drawn
+drawn_from Command.Move hs = Move (get_or hs 1 0) (get_or hs 0 0)
+drawn_from Command.Line hs = Line (get_or hs 1 0) (get_or hs 0 0)
+drawn_from Command.Cubic hs = Cubic (get_or hs 5 0) (get_or hs 4 0) (get_or hs 3 0) (get_or hs 2 0) (get_or hs 1 0) (get_or hs 0 0)
+drawn_from Command.Close hs = Close
 
 abbrev pub part_of : Part → Drawn
-part_of p = drawn_from p.letter p.numbers
+part_of p = drawn_from p.command p.numbers
 
 abbrev pub drawn_all : List Part → List Drawn
 drawn_all [] = []

@@ -2,3 +2,4 @@
 pub mod Pass
 pub mod StandIns
 pub mod Strokes
+pub mod Writers

@@ -11,12 +11,13 @@ ghost use Rattle.path.specs.Label.{stand_ins, tabled, placed_label_of, IsLabelPa
 
 use chart::Setting;
 use drawn::segment_of;
-use grid::{LabelPlace, SheetRecord, sound};
-use label::{TABLE_BYTES, TEXTS, in_table, is_stand_ins, part_of, put_stand_in, range_of};
+use grid::{LabelPlace, SheetRecord};
+use label::{part_of, span_of};
 use pass::{drawn_six, pass_over};
 use reader::judge;
 use refusals::{Refusal, TextRefusal};
-use sheet::{put_text, size_of, stroke_at, text_len};
+use sheet::judged;
+use stand_in::{StandIn, TABLE_BYTES, TEXTS, is_stand_ins};
 use stroke::pens_of;
 
 mod drawn;
@@ -26,12 +27,13 @@ mod number;
 mod pass;
 mod reader;
 mod sheet;
+mod stand_in;
 mod stroke;
 mod writer;
 
 // A pen position.
 #[repr(C)]
-#[derive(Clone, Copy)]
+#[derive(Clone, Copy, Default)]
 pub struct Pen {
     pub x: f32,
     pub y: f32,
@@ -55,23 +57,20 @@ pub struct PlacedLabel {
     pub width: u32,
 }
 
-// A label's text as a place: where it begins and how many bytes it has, in the table where `fixed` and else in the chart.
+// A label's text as a place: where it begins, in the chart or in the table, and how many bytes it has.
 #[derive(Clone, Copy)]
-pub struct LabelSpan {
-    pub fixed: bool,
-    pub at: u32,
-    pub len: u32,
+pub enum LabelSpan {
+    InChart { at: u32, len: u32 },
+    InTable { at: u32, len: u32 },
 }
 
 // Segment k of a sheet: 14, then 15.
 pub fn sheet_segment(s: &SheetRecord, k: usize) -> Result<Segment, TextRefusal>
     ensures { IsSegment k (sheet_answer s.now) result }
 {
-    if !sound(s) {
-        return Err(TextRefusal::TooFar);
-    }
-    if k < size_of(s) {
-        return Ok(pens_of(stroke_at(s, k)));
+    let sheet = judged(s)?;
+    if k < sheet.size {
+        return Ok(pens_of(sheet.stroke_at(k)));
     }
     Err(TextRefusal::NotThere)
 }
@@ -80,14 +79,12 @@ pub fn sheet_segment(s: &SheetRecord, k: usize) -> Result<Segment, TextRefusal>
 pub fn write_sheet(s: &SheetRecord, buf: &mut [u8]) -> Result<usize, TextRefusal>
     ensures { IsWritten s.now buf.old result buf.new }
 {
-    if !sound(s) {
-        return Err(TextRefusal::TooFar);
-    }
-    let n = text_len(s);
+    let sheet = judged(s)?;
+    let n = sheet.text_len();
     if buf.len() < n {
         return Err(TextRefusal::ShortBuffer(n));
     }
-    put_text(buf, s);
+    sheet.put_text(buf);
     Ok(n)
 }
 
@@ -135,7 +132,7 @@ pub fn stand_ins() -> [u8; 3293]
 {
     let mut table = [0; TABLE_BYTES];
     for j in 0..TEXTS {
-        put_stand_in(&mut table, j);
+        StandIn { number: j }.put(&mut table);
     }
     table
 }
@@ -192,14 +189,9 @@ pub fn label_part<'a>(
 ) -> &'a [u8]
     ensures { IsLabelPart chart.entry table.entry (labelled setting chart.now x y k i) result }
 {
-    match find_label(chart, x, y, setting, table, k, i) {
-        Ok(place) => part_of(
-            chart,
-            table,
-            in_table(place.text),
-            range_of(chart, place.text),
-        ),
-        Err(_) => part_of(chart, table, false, 0..0),
+    match label_span(chart, x, y, setting, table, k, i) {
+        Ok(span) => part_of(chart, table, span),
+        Err(_) => part_of(chart, table, LabelSpan::InChart { at: 0, len: 0 }),
     }
 }
 
@@ -216,10 +208,5 @@ pub fn label_span(
     ensures { IsLabelSpan chart.now table.now (labelled setting chart.now x y k i) result }
 {
     let place = find_label(chart, x, y, setting, table, k, i)?;
-    let part = range_of(chart, place.text);
-    Ok(LabelSpan {
-        fixed: in_table(place.text),
-        at: part.start as u32,
-        len: (part.end - part.start) as u32,
-    })
+    Ok(span_of(chart, place.text))
 }

@@ -14,15 +14,13 @@ fn digits_len(n: u32) -> usize
 }
 
 // The digits of n at a place, from the last to the first, with one division a turn.
-fn put_digits(buf: &mut [u8], at: usize, n: u32) -> usize
+pub fn put_digits(buf: &mut [u8], at: usize, n: u32) -> usize
     requires { at + length (digits n) ≤ length buf.old }
     ensures { IsPut buf.old at (digits n) buf.new result }
 {
     let e = at + digits_len(n);
     let mut m = n;
-    let mut i = e;
-    while 10 <= m {
-        i -= 1;
+    for i in (at + 1..e).rev() {
         let q = m / 10;
         buf[i] = b'0' + (m - 10 * q) as u8;
         m = q;
@@ -40,18 +38,4 @@ pub fn number_len(h: u32) -> usize
         return n;
     }
     n + 2
-}
-
-// The text of h halves at a place where it fits.
-pub fn put_number(buf: &mut [u8], at: usize, h: u32) -> usize
-    requires { at + length (number_text h) ≤ length buf.old }
-    ensures { IsPut buf.old at (number_text h) buf.new result }
-{
-    let e = put_digits(&mut *buf, at, h / 2);
-    if h % 2 == 0 {
-        return e;
-    }
-    buf[e] = b'.';
-    buf[e + 1] = b'5';
-    e + 2
 }

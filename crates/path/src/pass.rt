@@ -1,15 +1,15 @@
-// One pass over a path text: how the reader stands, how many segments have begun, and the letter and numbers of one of them.
+// One pass over a path text: how the reader stands, how many segments have begun, and the command and numbers of one of them.
 ghost use Rattle.std.specs.Prelude.{◌≡◌, ◌<◌, ◌≤◌, length};
-ghost use Rattle.path.specs.Reader.{moved, drawn_from};
-ghost use Rattle.path.specs.code.Pass.{empty, kept_of, passed, pass_to};
+ghost use Rattle.path.specs.Reader.{moved};
+ghost use Rattle.path.specs.code.Pass.{empty, kept_of, passed, pass_to, drawn_kept};
 
 use crate::drawn::Drawn;
-use crate::reader::{Act, Phase, Stand, act_of, move_on};
+use crate::reader::{Act, Command, Phase, Stand, act_of, move_on};
 
-// The letter of one segment, and the last six numbers of it, in halves, the latest first.
+// The command of one segment, once it has begun, and the last six numbers of it, in halves, the latest first.
 #[derive(Clone, Copy)]
 pub struct Kept {
-    pub letter: u8,
+    pub command: Option<Command>,
     pub numbers: [u32; 6],
 }
 
@@ -34,20 +34,20 @@ fn begin() -> Pass
         },
         count: 0,
         kept: Kept {
-            letter: 0,
+            command: None,
             numbers: [0; 6],
         },
     }
 }
 
-// The segment's letter and numbers after a byte of it; v is the whole part of its last number.
+// The segment's command and numbers after a byte of it; v is the whole part of its last number.
 fn keep(k: &mut Kept, a: Act, v: u32)
     requires { v < 100000000 }
     ensures { k.new ≡ kept_of a v k.old }
 {
     match a {
-        Act::Letter(b) => {
-            k.letter = b;
+        Act::Letter(c) => {
+            k.command = Some(c);
         }
         Act::First(_) => {
             let [f, e, d, c, b, _] = k.numbers;
@@ -90,15 +90,15 @@ pub fn pass_over(text: &[u8], k: usize) -> Pass
     m
 }
 
-// The segment of a letter and six numbers.
+// The segment of a command and six numbers.
 pub fn drawn_six(k: Kept) -> Drawn
-    ensures { result ≡ drawn_from k.letter k.numbers }
+    ensures { result ≡ drawn_kept k }
 {
     let [f, e, d, c, b, a] = k.numbers;
-    match k.letter {
-        b'M' => Drawn::Move(e, f),
-        b'L' => Drawn::Line(e, f),
-        b'C' => Drawn::Cubic(a, b, c, d, e, f),
-        _ => Drawn::Close,
+    match k.command {
+        Some(Command::Move) => Drawn::Move(e, f),
+        Some(Command::Line) => Drawn::Line(e, f),
+        Some(Command::Cubic) => Drawn::Cubic(a, b, c, d, e, f),
+        Some(Command::Close) | None => Drawn::Close,
     }
 }

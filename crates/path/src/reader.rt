@@ -28,10 +28,19 @@ pub enum Phase {
     Stopped(usize),
 }
 
+// A segment's command, by its letter: M, L, C, Z.
+#[derive(Clone, Copy)]
+pub enum Command {
+    Move,
+    Line,
+    Cubic,
+    Close,
+}
+
 // What a byte is to the reader.
 #[derive(Clone, Copy)]
 pub enum Act {
-    Letter(u8),
+    Letter(Command),
     Space,
     First(u8),
     More(u8),
@@ -54,13 +63,14 @@ pub struct Stand {
     pub other: bool,
 }
 
-fn arity_of(b: u8) -> u8
-    ensures { result ≡ arity b }
+// How many numbers a command wants.
+fn arity_of(c: Command) -> u8
+    ensures { result ≡ arity c }
 {
-    match b {
-        b'C' => 6,
-        b'Z' => 0,
-        _ => 2,
+    match c {
+        Command::Move | Command::Line => 2,
+        Command::Cubic => 6,
+        Command::Close => 0,
     }
 }
 
@@ -70,7 +80,10 @@ pub fn act_of(p: Phase, v: u32, b: u8) -> Act
 {
     match (p, b) {
         (Phase::Stopped(_), _) => Act::Stay,
-        (Phase::Begin | Phase::Letter, b'M' | b'L' | b'C' | b'Z') => Act::Letter(b),
+        (Phase::Begin | Phase::Letter, b'M') => Act::Letter(Command::Move),
+        (Phase::Begin | Phase::Letter, b'L') => Act::Letter(Command::Line),
+        (Phase::Begin | Phase::Letter, b'C') => Act::Letter(Command::Cubic),
+        (Phase::Begin | Phase::Letter, b'Z') => Act::Letter(Command::Close),
         (Phase::Digit, b'0'..=b'9') => Act::First(b - b'0'),
         (Phase::Number, b'0'..=b'9') if v != 0 => Act::More(b - b'0'),
         (Phase::Number, b'.') => Act::Point,
@@ -115,12 +128,12 @@ pub fn move_on(s: &mut Stand, a: Act, at: usize)
     ensures { s.new ≡ moved a at s.old }
 {
     match a {
-        Act::Letter(b) => {
+        Act::Letter(c) => {
             if matches!(s.phase, Phase::Begin) {
-                s.other = b != b'M';
+                s.other = !matches!(c, Command::Move);
             }
             s.phase = Phase::Lettered;
-            s.left = arity_of(b);
+            s.left = arity_of(c);
         }
         Act::Space => {
             s.phase = if s.left == 0 {

@@ -1,23 +1,38 @@
 // A sheet's segments by number, and its text.
-ghost use Rattle.std.specs.Prelude.{true, ◌≡◌, ◌+◌, ◌<◌, ◌≤◌, length};
+ghost use Rattle.std.specs.Prelude.{true, false, MatchResult, ◌≡◌, ◌+◌, ◌<◌, ◌≤◌, length};
+ghost use Rattle.refusals.specs.declared.TextRefusal.TheVariants.{TooFar};
 ghost use Rattle.grid.specs.Record.{box_near, curve_near, sound_of};
 ghost use Rattle.path.specs.Drawn.{InRange};
 ghost use Rattle.path.specs.Text.{text_of};
-ghost use Rattle.path.specs.Writer.{IsPut, put};
+ghost use Rattle.path.specs.Writer.{put};
+ghost use Rattle.path.specs.code.Writers.{HasRoom, Writes};
 ghost use Rattle.path.specs.Segments.{drawn_of};
-ghost use Rattle.path.specs.code.Strokes.{box_stroke, curve_stroke, IsStroke, next_text};
+ghost use Rattle.path.specs.code.Strokes.{box_stroke, curve_stroke, IsSound, IsStroke, next_text};
 
 use crate::drawn::Drawn;
 use crate::stroke::{Stroke, drawn_of};
-use crate::writer::{put_segment, segment_len};
-use grid::{BoxRecord, Curve, SheetRecord};
+use crate::writer::{Writer, segment_len};
+use grid::{BoxRecord, Curve, SheetRecord, sound};
+use refusals::TextRefusal;
 
-// How many segments: five a box, two a curve.
-pub fn size_of(s: &SheetRecord) -> usize
-    requires { sound_of s.now ≡ true }
-    ensures { result ≡ length (drawn_of s.now) }
+// A sound sheet, and how many segments it has.
+#[derive(Clone, Copy)]
+pub struct Sound<'a> {
+    sheet: &'a SheetRecord,
+    pub size: usize,
+    ghost sound: { IsSound sheet.now },
+    ghost whole: { size ≡ length (drawn_of sheet.now) },
+}
+
+// A sheet, judged: 14. Five segments a box, two a curve.
+pub fn judged(s: &SheetRecord) -> Result<Sound<'_>, TextRefusal>
+    ensures { MatchResult result (λ z. z.sheet.now ≡ s.now) (λ why. (why ≡ TooFar) × (sound_of s.now ≡ false)) }
 {
-    5 * (s.count as usize) + 2 * (s.drawn as usize)
+    if !sound(s) {
+        return Err(TextRefusal::TooFar);
+    }
+    let size = 5 * (s.count as usize) + 2 * (s.drawn as usize);
+    Ok(Sound { sheet: s, size })
 }
 
 // Segment k of a box, clockwise from the top left.
@@ -51,22 +66,6 @@ fn curve_stroke(x: u32, y: u32, c: Curve, k: usize) -> Stroke
     Stroke::Curve(x0, y0, x + c.x1, y + c.y1)
 }
 
-// Segment k of a sheet.
-pub fn stroke_at(s: &SheetRecord, k: usize) -> Stroke
-    requires s_value { sound_of s.now ≡ true }
-    requires k_in_bounds { k < length (drawn_of s.now) }
-    ensures { IsStroke (drawn_of s.now) k result }
-{
-    let n = 5 * (s.count as usize);
-    if k < n {
-        let b = s.boxes[k / 5];
-        return box_stroke(s.x, s.y, b, k % 5);
-    }
-    let j = k - n;
-    let c = s.curves[j / 2];
-    curve_stroke(s.x, s.y, c, j % 2)
-}
-
 // How many bytes segment k takes, with the space before it, if one stands before it.
 fn next_len(k: usize, d: Drawn) -> usize
     requires { InRange d }
@@ -79,38 +78,53 @@ fn next_len(k: usize, d: Drawn) -> usize
     n + 1
 }
 
-// How many bytes the text takes.
-pub fn text_len(s: &SheetRecord) -> usize
-    requires { sound_of s.now ≡ true }
-    ensures { result ≡ length (text_of (drawn_of s.now)) }
+// Writes segment k, with the space before it, if one stands before it.
+fn put_next(w: &mut Writer, k: usize, d: Drawn)
+    requires { HasRoom w.old (next_text k d) }
+    ensures { Writes w.old (next_text k d) w.new }
 {
-    let mut e = 0;
-    for k in 0..size_of(s) {
-        e += next_len(k, drawn_of(stroke_at(s, k)));
+    if 0 < k {
+        w.byte(b' ');
     }
-    e
+    w.segment(d);
 }
 
-// Segment k at a place, with the space before it, if one stands before it.
-fn put_next(buf: &mut [u8], at: usize, k: usize, d: Drawn) -> usize
-    requires { at + length (next_text k d) ≤ length buf.old }
-    ensures { IsPut buf.old at (next_text k d) buf.new result }
-{
-    if k == 0 {
-        return put_segment(buf, at, d);
+impl Sound<'_> {
+    // Segment k.
+    pub fn stroke_at(&self, k: usize) -> Stroke
+        requires { k < self.now.size }
+        ensures { IsStroke (drawn_of self.now.sheet.now) k result }
+    {
+        let s = self.sheet;
+        let n = 5 * (s.count as usize);
+        if k < n {
+            let b = s.boxes[k / 5];
+            return box_stroke(s.x, s.y, b, k % 5);
+        }
+        let j = k - n;
+        let c = s.curves[j / 2];
+        curve_stroke(s.x, s.y, c, j % 2)
     }
-    buf[at] = b' ';
-    put_segment(buf, at + 1, d)
-}
 
-// The text at the start of a buffer that it fits.
-pub fn put_text(buf: &mut [u8], s: &SheetRecord)
-    requires s_value { sound_of s.now ≡ true }
-    requires s_in_bounds { length (text_of (drawn_of s.now)) ≤ length buf.old }
-    ensures { buf.new ≡ put buf.old 0 (text_of (drawn_of s.now)) }
-{
-    let mut e = 0;
-    for k in 0..size_of(s) {
-        e = put_next(&mut *buf, e, k, drawn_of(stroke_at(s, k)));
+    // How many bytes the text takes.
+    pub fn text_len(&self) -> usize
+        ensures { result ≡ length (text_of (drawn_of self.now.sheet.now)) }
+    {
+        let mut e = 0;
+        for k in 0..self.size {
+            e += next_len(k, drawn_of(self.stroke_at(k)));
+        }
+        e
+    }
+
+    // The text at the start of a buffer that it fits.
+    pub fn put_text(&self, buf: &mut [u8])
+        requires { length (text_of (drawn_of self.now.sheet.now)) ≤ length buf.old }
+        ensures { buf.new ≡ put buf.old 0 (text_of (drawn_of self.now.sheet.now)) }
+    {
+        let mut w = Writer { buf, at: 0 };
+        for k in 0..self.size {
+            put_next(&mut w, k, drawn_of(self.stroke_at(k)));
+        }
     }
 }

@@ -1,11 +1,11 @@
 // The text of a segment.
-ghost use Rattle.std.specs.Prelude.{◌≡◌, ◌∷◌, ◌+◌, ◌≤◌, length};
+ghost use Rattle.std.specs.Prelude.{◌≡◌, [], ◌∷◌, length};
 ghost use Rattle.path.specs.Number.{number_text};
 ghost use Rattle.path.specs.Text.{segment_text, pair_text};
-ghost use Rattle.path.specs.Writer.{IsPut};
+ghost use Rattle.path.specs.code.Writers.{HasRoom, Writes};
 
 use crate::drawn::Drawn;
-use crate::number::{number_len, put_number};
+use crate::number::{number_len, put_digits};
 
 // How many bytes a space, a number, a space and a number take.
 fn pair_len(x: u32, y: u32) -> usize
@@ -26,49 +26,75 @@ pub fn segment_len(d: Drawn) -> usize
     }
 }
 
-// A space and a number at a place where they fit.
-fn put_word(buf: &mut [u8], at: usize, h: u32) -> usize
-    requires { at + length (32 ∷ number_text h) ≤ length buf.old }
-    ensures { IsPut buf.old at (32 ∷ number_text h) buf.new result }
-{
-    buf[at] = b' ';
-    put_number(buf, at + 1, h)
+// A buffer, and the place in it where the next text goes.
+#[derive(Drop)]
+pub struct Writer<'a> {
+    pub buf: &'a mut [u8],
+    pub at: usize,
 }
 
-// Two of them.
-fn put_pair(buf: &mut [u8], at: usize, x: u32, y: u32) -> usize
-    requires { at + length (pair_text x y) ≤ length buf.old }
-    ensures { IsPut buf.old at (pair_text x y) buf.new result }
-{
-    let e = put_word(&mut *buf, at, x);
-    put_word(buf, e, y)
-}
+impl Writer<'_> {
+    pub fn byte(&mut self, b: u8)
+        requires { HasRoom self.old (b ∷ []) }
+        ensures { Writes self.old (b ∷ []) self.new }
+    {
+        self.buf[self.at] = b;
+        self.at += 1;
+    }
 
-// A letter and a pair.
-fn put_to(buf: &mut [u8], at: usize, b: u8, x: u32, y: u32) -> usize
-    requires { at + length (b ∷ pair_text x y) ≤ length buf.old }
-    ensures { IsPut buf.old at (b ∷ pair_text x y) buf.new result }
-{
-    buf[at] = b;
-    put_pair(buf, at + 1, x, y)
-}
-
-// The text of a segment at a place where it fits.
-pub fn put_segment(buf: &mut [u8], at: usize, d: Drawn) -> usize
-    requires { at + length (segment_text d) ≤ length buf.old }
-    ensures { IsPut buf.old at (segment_text d) buf.new result }
-{
-    match d {
-        Drawn::Move(x, y) => put_to(buf, at, b'M', x, y),
-        Drawn::Line(x, y) => put_to(buf, at, b'L', x, y),
-        Drawn::Cubic(a, b, c, d, x, y) => {
-            let e = put_to(&mut *buf, at, b'C', a, b);
-            let f = put_pair(&mut *buf, e, c, d);
-            put_pair(buf, f, x, y)
+    // The text of h halves.
+    fn number(&mut self, h: u32)
+        requires { HasRoom self.old (number_text h) }
+        ensures { Writes self.old (number_text h) self.new }
+    {
+        self.at = put_digits(&mut *self.buf, self.at, h / 2);
+        if h % 2 != 0 {
+            self.byte(b'.');
+            self.byte(b'5');
         }
-        Drawn::Close => {
-            buf[at] = b'Z';
-            at + 1
+    }
+
+    // A space and a number.
+    fn word(&mut self, h: u32)
+        requires { HasRoom self.old (32 ∷ number_text h) }
+        ensures { Writes self.old (32 ∷ number_text h) self.new }
+    {
+        self.byte(b' ');
+        self.number(h);
+    }
+
+    // Two of them.
+    fn pair(&mut self, x: u32, y: u32)
+        requires { HasRoom self.old (pair_text x y) }
+        ensures { Writes self.old (pair_text x y) self.new }
+    {
+        self.word(x);
+        self.word(y);
+    }
+
+    // A letter and a pair.
+    fn to(&mut self, b: u8, x: u32, y: u32)
+        requires { HasRoom self.old (b ∷ pair_text x y) }
+        ensures { Writes self.old (b ∷ pair_text x y) self.new }
+    {
+        self.byte(b);
+        self.pair(x, y);
+    }
+
+    // The text of a segment.
+    pub fn segment(&mut self, d: Drawn)
+        requires { HasRoom self.old (segment_text d) }
+        ensures { Writes self.old (segment_text d) self.new }
+    {
+        match d {
+            Drawn::Move(x, y) => self.to(b'M', x, y),
+            Drawn::Line(x, y) => self.to(b'L', x, y),
+            Drawn::Cubic(a, b, c, d, x, y) => {
+                self.to(b'C', a, b);
+                self.pair(c, d);
+                self.pair(x, y);
+            }
+            Drawn::Close => self.byte(b'Z'),
         }
     }
 }

@@ -1,6 +1,8 @@
 -- The documents' number of each refusal, and its second number: '0 unless said'.
 -- Assumes nothing.
-use Rattle.std.specs.Prelude.{ℕ, Result, Ok, Err}
+use Rattle.std.specs.Prelude.{ℕ, Result, Ok, Err, List, ◌∷◌, ◌++◌}
+use Rattle.std.specs.Fmt.{decimal}
+use lib.Chars.{codes}
 use Rattle.refusals.specs.declared.Numbers.{Numbers}
 use Rattle.refusals.specs.declared.Refusal.{Refusal}
 use Rattle.refusals.specs.declared.Refusal.TheVariants.{OneByte, OtherFormat, ManyNodes, CutContents, Misplaced, CutBody, ManyLines, LongText, NotText, BytesAfter, ManyEnds, Outside, ManyBoxes, TooFar, NotThere}
@@ -42,3 +44,7 @@ numbers_in (Err why) = numbers_of why
 abbrev pub text_numbers_in : {A : Type 0} → Result A TextRefusal → Numbers
 text_numbers_in (Ok x) = numbers 0 0
 text_numbers_in (Err why) = text_numbers_of why
+
+-- a refusal in print: '`refused` and both numbers'
+abbrev pub refused_text : Numbers → List ℕ
+refused_text n = codes "refused " ++ decimal n.first ++ (32 ∷ decimal n.second)

@@ -1,8 +1,8 @@
 // The refusals of documents 01 and 02 by name, and the two numbers that the documents give each.
 #![tactic(auto)]
 
-ghost use Rattle.std.specs.Prelude.{◌≡◌};
-ghost use Rattle.refusals.specs.Refusals.{numbers_of, text_numbers_of};
+ghost use Rattle.std.specs.Prelude.{◌≡◌, Some};
+ghost use Rattle.refusals.specs.Refusals.{numbers_of, text_numbers_of, refused_text};
 
 use std::fmt;
 
@@ -131,6 +131,8 @@ impl TextRefusal {
 
 // As the programs print a refusal.
 impl fmt::Display for Numbers {
+    ghost output = { λ n. Some (refused_text n) };
+
     fn fmt<W: fmt::Write>(&self, f: &mut fmt::Formatter<W>) -> fmt::Result {
         write!(f, "refused {} {}", self.first, self.second)
     }

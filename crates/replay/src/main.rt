@@ -2,34 +2,23 @@
 // that begins with `D` is a chart in the default setting; any other is strict.
 #![tactic(auto)]
 
-use chart::Setting;
+use lines::{Program, ROOM};
 use std::io;
-use std::io::{BufWriter, Read, Write};
+use std::io::{BufWriter, Write};
 
-// How many bytes of standard input are read.
-const ROOM: u64 = 1048576;
+struct Replay;
 
-// The setting of a line's chart.
-fn setting_of(line: &[u8]) -> Setting {
-    if lines::is_default(line) {
-        return Setting::Default;
+impl Program for Replay {
+    fn print<W: Write>(out: &mut W, line: &[u8]) -> io::Result<()> {
+        let mut chart = [0u8; 8192];
+        let n = lines::decode(lines::digits(line), &mut chart);
+        listings::print_listing(out, &chart[..n], lines::setting_of(line))?;
+        writeln!(out)
     }
-    Setting::Strict
-}
-
-fn print_hex<W: Write>(out: &mut W, line: &[u8]) -> io::Result<()> {
-    let mut chart = [0u8; 8192];
-    let n = lines::decode(lines::digits(line), &mut chart);
-    listings::print_listing(out, &chart[..n], setting_of(line))?;
-    writeln!(out)
 }
 
 fn main(rt: HostRuntime) -> io::Result<()> {
-    let mut text = Vec::new(rt.alloc());
-    rt.reader().take(ROOM).read_to_end(&mut text)?;
     let mut out = BufWriter::new(rt.alloc(), io::writer(&rt))?;
-    for line in lines::lines(&text) {
-        print_hex(&mut out, line)?;
-    }
+    lines::run::<Replay, _, _, _>(rt.reader(), ROOM, &mut out, rt.alloc())?;
     out.flush()
 }

@@ -6,10 +6,10 @@ use native.Mathlib.Numerals.{add-one}
 use mathlib.Core.Path.{◌≡◌, refl, ap, sym, ◌∙◌}
 use mathlib.Core.Logic.{◌⊎◌, inl, inr}
 use mathlib.Core.Bool.{Bool, true, false, cond, ◌&&◌, ◌||◌}
-use mathlib.Core.List.{List, [], ◌∷◌, ◌++◌, append_assoc, append-nil}
+use mathlib.Core.List.{List, [], ◌∷◌, ◌++◌, append_assoc, reverse, reverse-append}
 use lib.Dec.{eqb, ltb}
-use lib.ListN.{length, get_or, take, drop, get_or-append}
-use lib.Seq.{take-suc, take_all, drop-cons, get_or-append_seam}
+use lib.ListN.{length, get_or, take, drop}
+use lib.Seq.{drop-cons}
 use borrow.Author.Tests.{eq-eqb, ne_eqb, lt-ltb, le-ltb}
 use Rattle.std.specs.Prelude.{Option, Some, None}
 use Rattle.std.specs.List.{list_any, find, range_with_len}
@@ -17,9 +17,9 @@ use Rattle.std.specs.Option.{is_none, unwrap_or, option_map}
 use Rattle.std.proofs.lemmas.Iterator.Adapters.{option_map_id}
 use Rattle.laws.specs.Bytes.{all_of}
 use Rattle.laws.specs.Each.{each}
-use Rattle.laws.specs.Lists.{has, one, keep, padded, stack_of}
+use Rattle.laws.specs.Lists.{has, one, keep}
 use Rattle.laws.proofs.Each.{next}
-use Rattle.laws.proofs.Lists.{one_more, length-one, padded-set, take-padded}
+use Rattle.laws.proofs.Lists.{length-one, padded-set, take-padded}
 use Rattle.laws.proofs.Tests.{less?}
 use Rattle.tables.specs.declared.Table.{Table}
 use Rattle.tables.specs.Tables.{pushed_if}
@@ -28,7 +28,7 @@ use Rattle.walks.proofs.Few.{has-append}
 use Rattle.graph.specs.declared.Lead.{Lead}
 use Rattle.graph.specs.Ends.{no_lead, targets_of}
 use Rattle.signal.specs.Signal.{Sources, is_left, free, lowest, put, listed, first_out, behind, back, back_from, signalled_by}
-use Rattle.std.specs.Prelude.{Result, Ok, Err}
+use Rattle.std.specs.Prelude.{Err}
 use Rattle.signal.specs.declared.NoOrder.TheVariants.{Cycle}
 use Rattle.signal.specs.Outcome.{nodes_held, answer_of}
 use Rattle.signal.specs.code.Nodes.{out_of, lowest_of}
@@ -72,9 +72,6 @@ module _ (done : List ℕ) (p : ℕ) (es : List Lead) (k : ℕ) (h : k < length 
 
   left : targets_of p (drop k es) ≡ keep (eqb lead.owner p) lead.to (targets_of p (drop (k + 1) es))
   left = ap (targets_of p) (drop-cons es k no_lead h) ∙ ap (λ (j : ℕ). keep (eqb lead.owner p) lead.to (targets_of p (drop j es))) (sym (add-one k))
-
-  pub out_here : lead.owner ≡ p → has lead.to done ≡ false → out_of done (targets_of p (drop k es)) ≡ Some lead.to
-  out_here o e = rw (left, eq-eqb lead.owner p o, e)
 
   pub out_next : lead.owner ≡ p → has lead.to done ≡ true → out_of done (targets_of p (drop k es)) ≡ out_of done (targets_of p (drop (k + 1) es))
   out_next o e = rw (left, eq-eqb lead.owner p o, e)
@@ -125,43 +122,31 @@ held_list t l e h = rw e (take-padded 32 0 l h)
 pub put_list : (l : List ℕ) (x : ℕ) (t u : Table ℕ 32) (r : Bool) → t ≡ nodes_held l → length l < 32 → r ≡ ltb t.count 32 → u ≡ pushed_if r t x → u ≡ nodes_held (l ++ one x)
 put_list l x t u r e h b p = rw (p, b, e, lt-ltb (length l) 32 h) (cc (padded-set 32 0 l x, length-one l x))
 
--- ---- a path cut at q: acc has been written, and k nodes are left to look at
-pub record Cut (path : List ℕ) (q : ℕ) (nodes : Table ℕ 32) (k : ℕ) : Type 0 where
+-- ---- a path cut at q: acc has been written, and rest is left to look at, from its end on
+pub record Cut (path : List ℕ) (q : ℕ) (nodes : Table ℕ 32) (rest : List ℕ) : Type 0 where
   pub acc : List ℕ
   pub held : nodes ≡ nodes_held acc
-  pub sum : length acc + k ≡ length path
-  pub whole : acc ++ up_to q (stack_of 0 path k) ≡ up_to q (stack_of 0 path (length path))
+  pub sum : length acc + length rest ≡ length path
+  pub whole : acc ++ up_to q (reverse rest) ≡ up_to q (reverse path)
 
-pub cut-first : (path : List ℕ) (q : ℕ) (nodes : Table ℕ 32) → nodes ≡ nodes_held [] → Cut path q nodes (length path)
-cut-first path q nodes e = record { acc = []; held = e; sum = omega arith; whole = refl }
+module _ (path : List ℕ) (few : length path ≤ 32) (q : ℕ) (nodes : Table ℕ 32) (rest : List ℕ) (x : ℕ) (c : Cut path q nodes (rest ++ one x)) (next : Table ℕ 32) (r : Bool) (b : r ≡ ltb nodes.count 32) (w : next ≡ pushed_if r nodes x) where
+  stored : next ≡ nodes_held (c.acc ++ one x)
+  stored = put_list c.acc x nodes next r c.held (omega (arith, c.sum, length-one rest x)) b w
 
-module _ (path : List ℕ) (few : length path ≤ 32) (q : ℕ) (nodes : Table ℕ 32) (k : ℕ) (c : Cut path q nodes k) where
-  pub cut-end : k ≡ 0 → (nodes ≡ nodes_held (up_to q (stack_of 0 path (length path)))) × (nodes.count ≤ 32)
-  cut-end e =
-      let z : c.acc ≡ up_to q (stack_of 0 path (length path)) = sym (append-nil c.acc) ∙ ap (λ (j : ℕ). c.acc ++ up_to q (stack_of 0 path j)) (sym e) ∙ c.whole in
-      (c.held ∙ ap nodes_held z, rw c.held (omega (arith, c.sum)))
+  step : (t : Bool) → eqb x q ≡ t → c.acc ++ (x ∷ cond t [] (up_to q (reverse rest))) ≡ up_to q (reverse path)
+  step t e = ap (λ (u : Bool). c.acc ++ (x ∷ cond u [] (up_to q (reverse rest)))) (sym e) ∙ ap (λ (l : List ℕ). c.acc ++ up_to q l) (sym (reverse-append rest (one x))) ∙ c.whole
 
-  module _ (pos : 0 < k) (next : Table ℕ 32) (r : Bool) (b : r ≡ ltb nodes.count 32) (w : next ≡ pushed_if r nodes (get_or path (k - 1) 0)) where
-    abbrev x : ℕ
-    x = get_or path (k - 1) 0
+  pub cut-here : x ≡ q → next ≡ nodes_held (up_to q (reverse path))
+  cut-here e = stored ∙ ap nodes_held (step true (eq-eqb x q e))
 
-    stored : next ≡ nodes_held (c.acc ++ one x)
-    stored = put_list c.acc x nodes next r c.held (omega (arith, c.sum)) b w
-
-    step : (t : Bool) → eqb x q ≡ t → c.acc ++ (x ∷ cond t [] (up_to q (stack_of 0 path (k - 1)))) ≡ up_to q (stack_of 0 path (length path))
-    step t e = ap (λ (u : Bool). c.acc ++ (x ∷ cond u [] (up_to q (stack_of 0 path (k - 1))))) (sym e) ∙ sym (ap (λ (l : List ℕ). c.acc ++ up_to q l) (one_more (stack_of 0 path) k pos)) ∙ c.whole
-
-    pub cut-here : x ≡ q → (next ≡ nodes_held (up_to q (stack_of 0 path (length path)))) × (next.count ≤ 32)
-    cut-here e = (stored ∙ ap nodes_held (step true (eq-eqb x q e)), rw stored (omega (arith, length-one c.acc x, c.sum)))
-
-    pub cut-next : (x ≡ q → ⊥) → Cut path q next (k - 1)
-    cut-next n =
-        record {
-          acc = c.acc ++ one x;
-          held = stored;
-          sum = omega (arith, length-one c.acc x, c.sum);
-          whole = append_assoc c.acc (one x) (up_to q (stack_of 0 path (k - 1))) ∙ step false (ne_eqb x q n);
-        }
+  pub cut-next : (x ≡ q → ⊥) → Cut path q next rest
+  cut-next n =
+      record {
+        acc = c.acc ++ one x;
+        held = stored;
+        sum = omega (arith, length-one c.acc x, length-one rest x, c.sum);
+        whole = append_assoc c.acc (one x) (up_to q (reverse rest)) ∙ step false (ne_eqb x q n);
+      }
 
 -- ---- one turn more of the list
 module _ (n : ℕ) (src : Sources) (i : ℕ) where
@@ -193,9 +178,6 @@ unfolding listed each
 lists-none n src nodes e = record { held = e; long = refl }
 
 module _ (n : ℕ) (src : Sources) (nodes : Table ℕ 32) (i : ℕ) (l : Lists n src nodes i) (few : n ≤ 32) where
-  pub lists-end : n ≡ i → (nodes ≡ nodes_held (listed n src n)) × (nodes.count ≤ 32)
-  lists-end e = (l.held ∙ ap (λ k. nodes_held (listed n src k)) (sym e), rw l.held (omega (arith, l.long)))
-
   module _ (h : i < n) (r : Option ℕ) (e : r ≡ lowest_of n (free src (take nodes.count nodes.items))) where
     found : r ≡ lowest_of n (free src (listed n src i))
     found = e ∙ ap (λ d. lowest_of n (free src d)) (held_list nodes (listed n src i) l.held (omega (arith, l.long)))
@@ -222,27 +204,9 @@ or_swap true false = refl
 or_swap false true = refl
 or_swap false false = refl
 
-stack_has : (q : ℕ) (path : List ℕ) (d : ℕ) → d ≤ length path → has q (stack_of 0 path d) ≡ has q (take d path)
-stack_has q path zero h = refl
-stack_has q path (suc d) h =
-    let l : d < length path = omega arith in
-    sym (ap (has q) (take-suc path d 0 l) ∙ has-append q (take d path) (one (get_or path d 0)) ∙ or_swap (has q (take d path)) (eqb (get_or path d 0) q) ∙ ap (λ (b : Bool). eqb (get_or path d 0) q || b) (sym (stack_has q path d (omega arith))))
-
--- the path, the last first
-abbrev pub stack : List ℕ → List ℕ
-stack path = stack_of 0 path (length path)
-
-has-stack : (q : ℕ) (path : List ℕ) → has q (stack path) ≡ has q path
-has-stack q path = stack_has q path (length path) (omega arith) ∙ ap (has q) (take_all (length path) path (omega arith))
-
-stack-front : (path more : List ℕ) (d : ℕ) → d ≤ length path → stack_of 0 (path ++ more) d ≡ stack_of 0 path d
-stack-front path more zero h = refl
-stack-front path more (suc d) h = cc (get_or-append path more 0 d (omega arith), stack-front path more d (omega arith))
-
-stack-one : (path : List ℕ) (q : ℕ) → stack (path ++ one q) ≡ q ∷ stack path
-stack-one path q =
-    ap (stack_of 0 (path ++ one q)) (length-one path q ∙ add-one (length path))
-    ∙ cc (get_or-append_seam path q [] 0, stack-front path (one q) (length path) (omega arith))
+has-reverse : (q : ℕ) (path : List ℕ) → has q (reverse path) ≡ has q path
+has-reverse q [] = refl
+has-reverse q (p ∷ path) = ap (has q) (reverse-append (one p) path) ∙ has-append q (reverse path) (one p) ∙ or_swap (has q (reverse path)) (eqb p q) ∙ ap (λ (b : Bool). eqb p q || b) (has-reverse q path)
 
 -- n - depth steps are left
 pub record Back (src : Sources) (done : List ℕ) (n : ℕ) (nodes : Table ℕ 32) (depth q : ℕ) : Type 0 where
@@ -250,35 +214,35 @@ pub record Back (src : Sources) (done : List ℕ) (n : ℕ) (nodes : Table ℕ 3
   pub held : nodes ≡ nodes_held path
   pub long : length path ≡ depth
   pub room : depth ≤ 32
-  pub next : q ≡ back src done (stack path)
-  pub whole : walk (back src done) (n - depth) (stack path) ≡ back_from n src done
+  pub next : q ≡ back src done (reverse path)
+  pub whole : walk (back src done) (n - depth) (reverse path) ≡ back_from n src done
 
 module _ (src : Sources) (done : List ℕ) (n : ℕ) (nodes : Table ℕ 32) (depth q : ℕ) (b : Back src done n nodes depth q) where
   pub back-path : take nodes.count nodes.items ≡ b.path
   back-path = held_list nodes b.path b.held (omega (arith, b.long, b.room))
 
-  pub back_end : n ≤ depth → up_to q (stack b.path) ≡ back_from n src done
+  pub back_end : n ≤ depth → up_to q (reverse b.path) ≡ back_from n src done
   unfolding walk
   back_end h =
       let e : 0 ≡ n - depth = omega arith in
-      rw b.next (ap (λ (k : ℕ). walk (back src done) k (stack b.path)) e) ∙ b.whole
+      rw b.next (ap (λ (k : ℕ). walk (back src done) k (reverse b.path)) e) ∙ b.whole
 
   module _ (h : depth < n) where
-    step_by : (t : Bool) → has q b.path ≡ t → cond t (up_to q (stack b.path)) (walk (back src done) (n - (depth + 1)) (q ∷ stack b.path)) ≡ back_from n src done
+    step_by : (t : Bool) → has q b.path ≡ t → cond t (up_to q (reverse b.path)) (walk (back src done) (n - (depth + 1)) (q ∷ reverse b.path)) ≡ back_from n src done
     unfolding walk
     step_by t e =
         let z : suc (n - (depth + 1)) ≡ n - depth = omega arith in
-        ap (λ (u : Bool). cond u (up_to q (stack b.path)) (walk (back src done) (n - (depth + 1)) (q ∷ stack b.path))) (sym (has-stack q b.path ∙ e))
-        ∙ ap (λ (r : ℕ). cond (has r (stack b.path)) (up_to r (stack b.path)) (walk (back src done) (n - (depth + 1)) (r ∷ stack b.path))) b.next
-        ∙ ap (λ (k : ℕ). walk (back src done) k (stack b.path)) z
+        ap (λ (u : Bool). cond u (up_to q (reverse b.path)) (walk (back src done) (n - (depth + 1)) (q ∷ reverse b.path))) (sym (has-reverse q b.path ∙ e))
+        ∙ ap (λ (r : ℕ). cond (has r (reverse b.path)) (up_to r (reverse b.path)) (walk (back src done) (n - (depth + 1)) (r ∷ reverse b.path))) b.next
+        ∙ ap (λ (k : ℕ). walk (back src done) k (reverse b.path)) z
         ∙ b.whole
 
-    pub back_met : has q b.path ≡ true → up_to q (stack b.path) ≡ back_from n src done
+    pub back_met : has q b.path ≡ true → up_to q (reverse b.path) ≡ back_from n src done
     back_met e = step_by true e
 
     pub back_on : n ≤ 32 → has q b.path ≡ false → (more : Table ℕ 32) (t : Bool) → t ≡ ltb nodes.count 32 → more ≡ pushed_if t nodes q → (r : ℕ) → r ≡ behind src done q → Back src done n more (depth + 1) r
     back_on few e more t u w r f =
-        let s = stack-one b.path q in
+        let s = reverse-append b.path (one q) in
         record {
           path = b.path ++ one q;
           held = put_list b.path q nodes more t b.held (omega (arith, b.long)) u w;
@@ -304,9 +268,6 @@ back-first src done n nodes first q w e f =
 module _ (n : ℕ) (src : Sources) (all : Table ℕ 32) (w : all ≡ nodes_held (listed n src n)) where
   long_is : all.count ≡ length (listed n src n)
   long_is = ap (λ (x : Table ℕ 32). x.count) w
-
-  pub answer-all : all.count ≡ n → Ok all ≡ answer_of (signalled_by n src)
-  answer-all e = let z : length (listed n src n) ≡ n = sym long_is ∙ e in rw (eq-eqb (length (listed n src n)) n z) (ap Ok w)
 
   pub answer-cycle : all.count ≤ 32 → (all.count ≡ n → ⊥) → (f : Table ℕ 32) → f ≡ nodes_held (back_from n src (take all.count all.items)) → Err (Cycle f) ≡ answer_of (signalled_by n src)
   answer-cycle few e f v =

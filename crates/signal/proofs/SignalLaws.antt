@@ -12,7 +12,7 @@ use lib.ListN.{length, get_or, take, get_or-append, get_or-eq_default}
 use lib.Seq.{take-append-le, take-append_seam, get_or-append_seam}
 use borrow.Author.Tests.{eqb-true, eqb-false, ltb-true, ltb-false, not-true, not-false}
 use Rattle.laws.specs.Bytes.{all_of}
-use Rattle.laws.specs.Lists.{All, has, place_of, one, padded}
+use Rattle.laws.specs.Lists.{All, has, place_of, one}
 use Rattle.laws.proofs.Each.{each_holds}
 use Rattle.laws.proofs.Lists.{length-one, all_join, take-padded, test_at}
 use Rattle.laws.proofs.Tests.{less?, pick-by}
@@ -20,7 +20,6 @@ use Rattle.walks.specs.Walks.{Distinct, Cycle, walk}
 use Rattle.walks.proofs.Few.{has_more, has_first, distinct-one, every, few, many, place_in, place-early}
 use Rattle.walks.proofs.WalkLaws.{walk_cycle, walk_enough, no-cycle, cycle-by, cycle-all}
 use Rattle.std.specs.Prelude.{Result, Ok, Err}
-use Rattle.refusals.specs.declared.Refusal.{Refusal}
 use Rattle.chart.specs.declared.Setting.TheVariants.{Strict}
 use Rattle.chart.specs.Chart.{Board, Reading, ready as accepted, refusal as unread, chart}
 use Rattle.graph.specs.Graph.{Edge, Node, Graph, bare, given_graph, node_at, leads_to}

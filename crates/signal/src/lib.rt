@@ -1,8 +1,7 @@
 // Document 02, L2: the signal order of a chart's nodes, or a cycle. The chart is read in the strict setting (L5).
 #![tactic(auto)]
 
-ghost use Rattle.std.specs.Prelude.{◌≡◌, ◌≤◌, length};
-ghost use Rattle.laws.specs.Lists.{stack_of};
+ghost use Rattle.std.specs.Prelude.{◌≡◌, ◌≤◌, length, reverse};
 ghost use Rattle.walks.specs.Walks.{up_to};
 ghost use Rattle.graph.specs.Shape.{shape_of};
 ghost use Rattle.graph.specs.Ends.{targets_of};
@@ -53,108 +52,113 @@ impl NoOrder {
     }
 }
 
-// The first source of p that is not among the nodes done, if there is one.
-fn first_out(sources: &[Lead], done: &[u8], p: u8) -> Option<u8>
-    ensures { result ≡ out_of done.now (targets_of p sources.now) }
-{
-    for e in sources {
-        if e.owner == p && !done.contains(&e.to) {
-            return Some(e.to);
-        }
-    }
-    None
-}
-
-// Whether p is free: it is not among the nodes done, and each of its sources is.
-fn is_free(sources: &[Lead], done: &[u8], p: u8) -> bool
-    ensures { result ≡ free (sources_of sources.now) done.now p }
-{
-    !done.contains(&p) && first_out(sources, done, p).is_none()
-}
-
-// The lowest free number, if one of n is free.
-fn lowest_free(sources: &[Lead], done: &[u8], n: u8) -> Option<u8>
-    ensures { result ≡ lowest_of n (free (sources_of sources.now) done.now) }
-{
-    (0..n).find(|&p| is_free(sources, done, p))
-}
-
-// The lowest free number next, as long as there is one.
-fn list_nodes(sources: &[Lead], n: u8) -> Nodes
-    requires { n ≤ 32 }
-    ensures whole { result ≡ nodes_held (listed n (sources_of sources.now) n) }
-    ensures few { result.count ≤ 32 }
-{
-    let mut nodes = Table::empty(0);
-    for _ in 0..n {
-        let Some(p) = lowest_free(sources, nodes.as_slice(), n) else {
-            break;
-        };
-        nodes.push(p);
-    }
-    nodes
-}
-
-// The lowest of n numbers that is not among the nodes done; n where each is, as the definition has it.
-fn first_left(done: &[u8], n: u8) -> u8
-    ensures { result ≡ lowest n (is_left done.now) 0 }
-{
-    (0..n).find(|q| !done.contains(q)).unwrap_or(n)
-}
-
-// The first of p's sources that is not among the nodes done; 0 where each is, as the definition has it.
-fn source_left(sources: &[Lead], done: &[u8], p: u8) -> u8
-    ensures { result ≡ behind (sources_of sources.now) done.now p }
-{
-    first_out(sources, done, p).unwrap_or(0)
-}
-
 // The path, the last first, up to q.
 fn cut_at(path: &[u8], q: u8) -> Nodes
     requires { length path.now ≤ 32 }
-    ensures whole { result ≡ nodes_held (up_to q (stack_of 0 path.now (length path.now))) }
-    ensures few { result.count ≤ 32 }
+    ensures { result ≡ nodes_held (up_to q (reverse path.now)) }
 {
     let mut nodes = Table::empty(0);
-    for k in (0..path.len()).rev() {
-        nodes.push(path[k]);
-        if path[k] == q {
+    for &node in path.iter().rev() {
+        nodes.push(node);
+        if node == q {
             break;
         }
     }
     nodes
 }
 
-// From the lowest node left back to sources that are left, until a node comes again.
-fn find_cycle(sources: &[Lead], done: &[u8], n: u8) -> Nodes
-    requires { n ≤ 32 }
-    ensures whole { result ≡ nodes_held (back_from n (sources_of sources.now) done.now) }
-    ensures few { result.count ≤ 32 }
-{
-    let first = first_left(done, n);
-    let mut path: Nodes = Table::empty(0);
-    path.push(first);
-    let mut q = source_left(sources, done, first);
-    for _ in 1..n {
-        if path.as_slice().contains(&q) {
-            break;
-        }
-        path.push(q);
-        q = source_left(sources, done, q);
-    }
-    cut_at(path.as_slice(), q)
+// The sources of n nodes: a lead for each.
+#[derive(Drop)]
+struct Sources<'a> {
+    leads: &'a [Lead],
+    n: u8,
+    ghost few: { n ≤ 32 },
 }
 
-// The signal order of n nodes, by their sources, or a cycle.
-fn signal_order_of(sources: &[Lead], n: u8) -> Result<Nodes, NoOrder>
-    requires { n ≤ 32 }
-    ensures { result ≡ answer_of (signalled_by n (sources_of sources.now)) }
-{
-    let all = list_nodes(sources, n);
-    if all.count == n as usize {
-        return Ok(all);
+impl<'a> Sources<'a> {
+    // The first source of p that is not among the nodes done, if there is one.
+    fn first_out(&self, done: &[u8], p: u8) -> Option<u8>
+        ensures { result ≡ out_of done.now (targets_of p self.now.leads.now) }
+    {
+        for e in self.leads {
+            if e.owner == p && !done.contains(&e.to) {
+                return Some(e.to);
+            }
+        }
+        None
     }
-    Err(NoOrder::Cycle(find_cycle(sources, all.as_slice(), n)))
+
+    // Whether p is free: it is not among the nodes done, and each of its sources is.
+    fn is_free(&self, done: &[u8], p: u8) -> bool
+        ensures { result ≡ free (sources_of self.now.leads.now) done.now p }
+    {
+        !done.contains(&p) && self.first_out(done, p).is_none()
+    }
+
+    // The lowest free number, if one is free.
+    fn lowest_free(&self, done: &[u8]) -> Option<u8>
+        ensures { result ≡ lowest_of self.now.n (free (sources_of self.now.leads.now) done.now) }
+    {
+        (0..self.n).find(|&p| self.is_free(done, p))
+    }
+
+    // The lowest free number next, as long as there is one.
+    fn list(&self) -> Nodes
+        ensures whole { result ≡ nodes_held (listed self.now.n (sources_of self.now.leads.now) self.now.n) }
+        ensures few { result.count ≤ 32 }
+    {
+        let mut nodes = Table::empty(0);
+        for _ in 0..self.n {
+            let Some(p) = self.lowest_free(nodes.as_slice()) else {
+                break;
+            };
+            nodes.push(p);
+        }
+        nodes
+    }
+
+    // The lowest number that is not among the nodes done; n where each is, as the definition has it.
+    fn first_left(&self, done: &[u8]) -> u8
+        ensures { result ≡ lowest self.now.n (is_left done.now) 0 }
+    {
+        (0..self.n).find(|q| !done.contains(q)).unwrap_or(self.n)
+    }
+
+    // The first of p's sources that is not among the nodes done; 0 where each is, as the definition has it.
+    fn source_left(&self, done: &[u8], p: u8) -> u8
+        ensures { result ≡ behind (sources_of self.now.leads.now) done.now p }
+    {
+        self.first_out(done, p).unwrap_or(0)
+    }
+
+    // From the lowest node left back to sources that are left, until a node comes again.
+    fn find_cycle(&self, done: &[u8]) -> Nodes
+        ensures { result ≡ nodes_held (back_from self.now.n (sources_of self.now.leads.now) done.now) }
+    {
+        let first = self.first_left(done);
+        let mut path: Nodes = Table::empty(0);
+        path.push(first);
+        let mut q = self.source_left(done, first);
+        for _ in 1..self.n {
+            if path.as_slice().contains(&q) {
+                break;
+            }
+            path.push(q);
+            q = self.source_left(done, q);
+        }
+        cut_at(path.as_slice(), q)
+    }
+
+    // The signal order of the nodes, or a cycle.
+    fn order(&self) -> Result<Nodes, NoOrder>
+        ensures { result ≡ answer_of (signalled_by self.now.n (sources_of self.now.leads.now)) }
+    {
+        let all = self.list();
+        if all.count == self.n as usize {
+            return Ok(all);
+        }
+        Err(NoOrder::Cycle(self.find_cycle(all.as_slice())))
+    }
 }
 
 // The signal order of a completed graph.
@@ -164,7 +168,11 @@ fn ordered_of(g: Tables) -> Result<Nodes, NoOrder>
     ensures { result ≡ answer_of (signalled (shape_of (graph_of g))) }
 {
     let ends = graph::ends_of(g.sources);
-    signal_order_of(ends.as_slice(), g.n as u8)
+    let sources = Sources {
+        leads: ends.as_slice(),
+        n: g.n as u8,
+    };
+    sources.order()
 }
 
 // The signal order of a chart's nodes, or a cycle (20), or the first refusal of 1 to 12.

@@ -2,12 +2,10 @@
 // a cycle; or another refusal.
 #![tactic(auto)]
 
+use lines::{Program, ROOM};
 use signal::{NoOrder, Nodes};
 use std::io;
-use std::io::{BufWriter, Read, Write};
-
-// How many bytes of standard input are read.
-const ROOM: u64 = 1048576;
+use std::io::{BufWriter, Write};
 
 fn print_nodes<W: Write>(out: &mut W, nodes: &Nodes) -> io::Result<()> {
     for node in nodes.as_slice() {
@@ -16,31 +14,31 @@ fn print_nodes<W: Write>(out: &mut W, nodes: &Nodes) -> io::Result<()> {
     Ok(())
 }
 
-fn print_hex<W: Write>(out: &mut W, line: &[u8]) -> io::Result<()> {
-    let mut bytes = [0u8; 65536];
-    let n = lines::decode(line, &mut bytes);
-    match signal::signal_order(&bytes[..n]) {
-        Ok(nodes) => {
-            write!(out, "order")?;
-            print_nodes(out, &nodes)?;
-        }
-        Err(why) => {
-            write!(out, "{}", why.numbers())?;
-            if let NoOrder::Cycle(nodes) = why {
-                write!(out, " cycle")?;
+struct Signals;
+
+impl Program for Signals {
+    fn print<W: Write>(out: &mut W, line: &[u8]) -> io::Result<()> {
+        let mut bytes = [0u8; 65536];
+        let n = lines::decode(line, &mut bytes);
+        match signal::signal_order(&bytes[..n]) {
+            Ok(nodes) => {
+                write!(out, "order")?;
                 print_nodes(out, &nodes)?;
             }
+            Err(why) => {
+                write!(out, "{}", why.numbers())?;
+                if let NoOrder::Cycle(nodes) = why {
+                    write!(out, " cycle")?;
+                    print_nodes(out, &nodes)?;
+                }
+            }
         }
+        writeln!(out)
     }
-    writeln!(out)
 }
 
 fn main(rt: HostRuntime) -> io::Result<()> {
-    let mut text = Vec::new(rt.alloc());
-    rt.reader().take(ROOM).read_to_end(&mut text)?;
     let mut out = BufWriter::new(rt.alloc(), io::writer(&rt))?;
-    for line in lines::lines(&text) {
-        print_hex(&mut out, line)?;
-    }
+    lines::run::<Signals, _, _, _>(rt.reader(), ROOM, &mut out, rt.alloc())?;
     out.flush()
 }

@@ -4,11 +4,9 @@
 
 use chart::Setting;
 use graph::{Item, Tables};
+use lines::{Program, ROOM};
 use std::io;
-use std::io::{BufWriter, Read, Write};
-
-// How many bytes of standard input are read.
-const ROOM: u64 = 1048576;
+use std::io::{BufWriter, Write};
 
 // A source: where it leads, and its mark, a number, or `-` for none.
 fn print_source<W: Write>(out: &mut W, x: &Item) -> io::Result<()> {
@@ -76,21 +74,21 @@ fn print_first<W: Write>(out: &mut W, chart: &[u8]) -> io::Result<()> {
     }
 }
 
-fn print_hex<W: Write>(out: &mut W, line: &[u8]) -> io::Result<()> {
-    let mut bytes = [0u8; 65536];
-    let n = lines::decode(line, &mut bytes);
-    let chart = &bytes[..n];
-    print_completed(out, chart)?;
-    print_cut(out, chart)?;
-    print_first(out, chart)
+struct Stages;
+
+impl Program for Stages {
+    fn print<W: Write>(out: &mut W, line: &[u8]) -> io::Result<()> {
+        let mut bytes = [0u8; 65536];
+        let n = lines::decode(line, &mut bytes);
+        let chart = &bytes[..n];
+        print_completed(out, chart)?;
+        print_cut(out, chart)?;
+        print_first(out, chart)
+    }
 }
 
 fn main(rt: HostRuntime) -> io::Result<()> {
-    let mut text = Vec::new(rt.alloc());
-    rt.reader().take(ROOM).read_to_end(&mut text)?;
     let mut out = BufWriter::new(rt.alloc(), io::writer(&rt))?;
-    for line in lines::lines(&text) {
-        print_hex(&mut out, line)?;
-    }
+    lines::run::<Stages, _, _, _>(rt.reader(), ROOM, &mut out, rt.alloc())?;
     out.flush()
 }

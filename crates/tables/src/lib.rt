@@ -2,7 +2,7 @@
 #![tactic(auto)]
 
 ghost use Rattle.std.specs.Prelude.{◌≡◌, length, ltb, take};
-ghost use Rattle.tables.specs.Tables.{empty, pushed_if};
+ghost use Rattle.tables.specs.Tables.{empty, pushed_if, last_of, popped};
 
 // The first count items.
 #[derive(Clone, Copy)]
@@ -45,5 +45,16 @@ impl<T: Copy, const N: usize> Table<T, N> {
         self.items[self.count] = item;
         self.count += 1;
         true
+    }
+
+    // The last item is taken away and handed out, if there is one; its place keeps it.
+    pub fn pop(&mut self) -> Option<T>
+        ensures item { result ≡ last_of self.old }
+        ensures table { self.new ≡ popped self.old }
+        ensures long { length self.old.items ≡ N }
+    {
+        let last = self.as_slice().last().copied();
+        self.count = self.as_slice().len().saturating_sub(1);
+        last
     }
 }

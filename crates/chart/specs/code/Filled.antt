@@ -1,8 +1,9 @@
 -- The board that the code's tables hold, and the tables as the code fills them, one record after another.
 -- Assumes nothing.
-use Rattle.std.specs.Prelude.{ℕ, suc, ◌+◌, cond, List, [], ◌∷◌, ltb, set, take, replicate}
+use Rattle.std.specs.Prelude.{ℕ, suc, List, [], ◌∷◌, map, take, replicate}
 use Rattle.laws.specs.Lists.{tabulate, owned_by}
 use Rattle.tables.specs.declared.Table.{Table}
+use Rattle.tables.specs.Tables.{pushed}
 use Rattle.chart.specs.declared.Item.{Item}
 use Rattle.chart.specs.Tables.{Items}
 use Rattle.chart.specs.declared.Line.{Line}
@@ -55,29 +56,25 @@ board_of t = board_from t.n (items_of t.sources) (lines_of t.lines) (items_of t.
 
 -- ---- the tables as the code makes them, of any board
 
--- one record more; past the array only the count says so
-abbrev pub pushed : {A : Type 0} {m : ℕ} → Table A m → A → Table A m
-pushed {m = m} t x = cond (ltb t.count m) (record { items = set t.items t.count x; count = t.count + 1 }) (record { items = t.items; count = m + 1 })
-
--- the records of some values pushed one after the other
-abbrev pub push_all : {A W : Type 0} {m : ℕ} → (W → A) → Table A m → List W → Table A m
-push_all make t [] = t
-push_all make t (e ∷ es) = push_all make (pushed t (make e)) es
+-- the records pushed one after the other; past the array only the count goes on
+abbrev pub push_all : {A : Type 0} {m : ℕ} → Table A m → List A → Table A m
+push_all t [] = t
+push_all t (x ∷ xs) = push_all (pushed t x) xs
 
 -- the tables with node p, and with the nodes from p on
 abbrev pub with_node : Tables → ℕ → Node → Tables
 with_node t p q =
     record {
       n = t.n;
-      sources = push_all (item_of p) t.sources q.sources;
-      lines = push_all (line_of p) t.lines q.lines;
-      sinks = push_all (item_of p) t.sinks q.sinks;
+      sources = push_all t.sources (map (item_of p) q.sources);
+      lines = push_all t.lines (map (line_of p) q.lines);
+      sinks = push_all t.sinks (map (item_of p) q.sinks);
     }
 
 abbrev pub with_nodes : Tables → ℕ → Board → Tables
 with_nodes t p [] = t
 with_nodes t p (q ∷ qs) = with_nodes (with_node t p q) (suc p) qs
 
--- the tables of n nodes; of an accepted board they are `board_tables` (proofs/Accepts)
+-- the tables of n nodes: `board_tables` of each board of n (proofs/Held)
 unfoldable pub tables_of : ℕ → Board → Tables
 tables_of n ps = with_nodes (empty_board n) 0 ps

@@ -1,6 +1,6 @@
 -- What the crates above take of an answer of `read` (`reads_of` of proofs/Accepts), and what its last steps answer.
 -- Assumes nothing.
-use Rattle.std.specs.Prelude.{ℕ, ◌+◌, ◌-◌, ◌≤◌, ◌<◌, ◌≡◌, cond, List, leb, length, Option, Some, None, Result, Ok, Err}
+use Rattle.std.specs.Prelude.{ℕ, ◌+◌, ◌≤◌, ◌<◌, ◌≡◌, cond, List, leb, length, Option, Some, None, Result, Ok, Err}
 use Rattle.laws.specs.Lists.{All}
 use Rattle.refusals.specs.declared.Refusal.{Refusal}
 use Rattle.refusals.specs.declared.Refusal.TheVariants.{ManyEnds, Outside}
@@ -51,9 +51,4 @@ outside_judged None = Ok tt
 outside_judged (Some t) = Err (Outside t)
 
 abbrev pub judged_of : Setting → Tables → Result (Unit {0}) Refusal
-judged_of w b =
-    cond (leb b.sources.count 64)
-    (cond (leb b.sinks.count (64 - b.sources.count))
-    (outside_judged (outside_in w (targets_of (board_of b)) b.n))
-    (Err ManyEnds))
-    (Err ManyEnds)
+judged_of w b = cond (leb (b.sources.count + b.sinks.count) 64) (outside_judged (outside_in w (targets_of (board_of b)) b.n)) (Err ManyEnds)

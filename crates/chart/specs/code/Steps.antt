@@ -1,16 +1,13 @@
 -- What the code's readers answer: the definition's reading, as a `Result`.
 -- Assumes nothing.
-use Rattle.std.specs.Prelude.{ℕ, ◌≡◌, cond, List, eqb, ltb, Result, Ok, Err}
+use Rattle.std.specs.Prelude.{ℕ, ◌*◌, ◌≤◌, ◌≡◌, cond, List, eqb, ltb, Result, Ok, Err}
 use Rattle.refusals.specs.declared.Refusal.{Refusal}
 use Rattle.refusals.specs.declared.Refusal.TheVariants.{NotText}
-use Rattle.tables.specs.declared.Table.{Table}
 use Rattle.chart.specs.declared.Board.{Board as Tables}
-use Rattle.chart.specs.declared.reader.Read.{Read}
+use Rattle.chart.specs.declared.reader.Reader.{Reader}
 use Rattle.chart.specs.declared.reader.Part.{Part as PartRead}
-use Rattle.chart.specs.declared.reader.End.{End as EndRead}
 use Rattle.chart.specs.declared.reader.Counts.{Counts as CountsRead}
-use Rattle.chart.specs.Chart.{Part, End, Node, Counts, Board, Got, got, refused, ◌then◌, byte, is_text, byte_c2, byte_b0}
-use Rattle.chart.specs.code.Filled.{push_all, with_node, with_nodes}
+use Rattle.chart.specs.Chart.{Part, Counts, Got, got, refused, ◌then◌, byte, is_text, byte_c2, byte_b0}
 
 -- the next character of a text of which so many bytes are left: a text byte or a degree sign, and how many bytes it has
 abbrev pub character_at : ℕ → List ℕ → ℕ → Got ℕ
@@ -20,43 +17,30 @@ character_at left s at =
     (cond (ltb left 2) (refused NotText) (byte s at₁ then λ c at₂. cond (eqb c byte_b0) (got 2 at₂) (refused NotText)))
     (cond (is_text b) (got 1 at₁) (refused NotText))
 
--- how many bytes a character has
-abbrev pub bytes_read : Got ℕ → Result ℕ Refusal
-bytes_read (got n at) = Ok n
-bytes_read (refused r) = Err r
+-- what an answer says with the place after it, where the value stands for f of it
+abbrev pub told : {A B : Type 0} → (B → A) → Result B Refusal → ℕ → Got A
+told f (Ok x) at = got (f x) at
+told f (Err why) at = refused why
 
--- what is read, as a value of the code's, and the place after it
-abbrev pub read_as : {A B : Type 0} → (A → B) → Got A → Result (Read B) Refusal
-read_as f (got x at) = Ok (record { value = f x; end = at })
-read_as f (refused r) = Err r
+-- a reader that was a and is b now: the value of its answer r, seen as f, or the refusal, is what `read` reads at a's place; b stands after it, in the same chart
+abbrev pub HasRead : {A B : Type 0} → (B → A) → (List ℕ → ℕ → Got A) → Reader → Result B Refusal → Reader → Type 0
+HasRead f read a r b = (told f r b.at ≡ read a.chart.now a.at) × (b.chart.now ≡ a.chart.now)
 
-abbrev pub count_read : ℕ → ℕ
-count_read n = n
+-- what a value of the code's stands for
+abbrev pub as_is : {A : Type 0} → A → A
+as_is x = x
 
-abbrev pub part_read : Part → PartRead
-part_read t = record { at = t.at; len = t.len }
+abbrev pub as_part : PartRead → Part
+as_part t = record { at = t.at; len = t.len }
 
-abbrev pub end_read : End → EndRead
-end_read e = record { to = e.to; text = part_read e.text }
+abbrev pub as_counts : CountsRead → Counts
+as_counts c = record { sources = c.sources; lines = c.lines; sinks = c.sinks }
 
-abbrev pub counts_read : Counts → CountsRead
-counts_read c = record { sources = c.sources; lines = c.lines; sinks = c.sinks }
+-- what is read, made into another value
+abbrev pub made : {A B : Type 0} → (A → B) → Got A → Got B
+made f (got x at) = got (f x) at
+made f (refused r) = refused r
 
--- r is the place after what is read into lent tables, which are v then
-abbrev pub Into : {A : Type 0} → Got A → Result ℕ Refusal → A → Type 0
-Into (got x at) r v = (r ≡ Ok at) × (v ≡ x)
-Into (refused why) r v = r ≡ Err why
-
--- their records pushed onto the table t
-abbrev pub all_into : {A W : Type 0} {m : ℕ} → (W → A) → Table A m → Got (List W) → Got (Table A m)
-all_into make t (got es at) = got (push_all make t es) at
-all_into make t (refused r) = refused r
-
--- node p put into the tables; the nodes from p on
-abbrev pub node_into : Tables → ℕ → Got Node → Got Tables
-node_into t p (got q at) = got (with_node t p q) at
-node_into t p (refused r) = refused r
-
-abbrev pub nodes_into : Tables → ℕ → Got Board → Got Tables
-nodes_into t p (got qs at) = got (with_nodes t p qs) at
-nodes_into t p (refused r) = refused r
+-- no table counts more than the records of k nodes, of which each has at most 255 of a kind
+abbrev pub Within : ℕ → Tables → Type 0
+Within k t = (t.sources.count ≤ 255 * k) × (t.lines.count ≤ 255 * k) × (t.sinks.count ≤ 255 * k)

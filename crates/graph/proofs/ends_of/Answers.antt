@@ -1,6 +1,6 @@
 -- `ends_of`: the first k leads are those of the first k records.
 -- Assumes nothing.
-use Rattle.std.proofs.Common.{◌≡◌, refl, ◌∙◌, arith, rules, length, ◌<◌}
+use Rattle.std.proofs.Common.{◌≡◌, ◌∙◌, arith, rules, length, ◌<◌}
 use lib.ListN.{length-set}
 use Rattle.laws.proofs.Lists.{mapped_long}
 use Rattle.graph.specs.Ends.{lead_of}
@@ -8,9 +8,6 @@ use Rattle.graph.specs.Outcome.{no_item}
 use Rattle.graph.proofs.Lists.{stored_more, stored-all}
 use Rattle.graph.proofs.ends_of.Goals as goal
 use Rattle.graph.proofs.ends_of.Goals.{Start}
-
-pub loop-k-init : goal.loop-k-init
-loop-k-init c = (refl, refl)
 
 pub loop-k-preserved : goal.loop-k-preserved
 loop-k-preserved c =

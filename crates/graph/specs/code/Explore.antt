@@ -1,45 +1,44 @@
 -- The cutting walk with an explicit path, against the walk by recursion of `Cutting`: what is left of the walk at a state, and the bound that falls.
 -- Assumes nothing.
 use Rattle.std.specs.Prelude.{ℕ, suc, ◌+◌, ◌-◌, ◌*◌, ◌≤◌, ◌<◌, ◌≡◌, Bool, true, false, List, [], ◌∷◌, length, take, Result, Ok, Err}
+use Rattle.tables.specs.declared.Table.{Table}
 use Rattle.graph.specs.declared.Tables.{Tables}
-use Rattle.graph.specs.declared.cutting.Look.{Look}
 use Rattle.refusals.specs.declared.Refusal.{Refusal}
 use Rattle.refusals.specs.declared.Refusal.TheVariants.{ManyBoxes}
-use Rattle.laws.specs.Lists.{stack_of}
+use Rattle.graph.specs.declared.reach.Frame.{Frame}
 use Rattle.graph.specs.declared.reach.Seen.{Seen}
 use Rattle.graph.specs.declared.reach.Seen.TheVariants.{Explored}
 use Rattle.graph.specs.Graph.{Graph, degree}
 use Rattle.graph.specs.Cutting.{Walk, explore_from, explore_sinks, seeing, beginning, cutting}
 use Rattle.graph.specs.code.Tables.{graph_of, Roomy}
-use Rattle.graph.specs.code.Path.{unseens}
+use Rattle.graph.specs.code.Path.{path_of, unseens, looks}
 
--- the walk's state: the number of nodes that were given, the tables so far, how each node stands, and the path, the first depth frames
+-- the walk's state: the number of nodes that were given, the tables so far, how each node stands, and the path, the last frame first
 pub record Explore : Type 0 where
   pub given : ℕ
   pub tables : Tables
   pub seen : List Seen
-  pub frames : List Look
-  pub depth : ℕ
+  pub frames : List Frame
 
-abbrev pub no_look : Look
-no_look = record { node = 0; sink = 0 }
+-- the state where g nodes were given
+abbrev pub state : ℕ → Tables → List Seen → Table Frame 48 → Explore
+state g t seen path = record { given = g; tables = t; seen = seen; frames = path_of path }
+
+-- the same, between two walks
+abbrev pub between : ℕ → Tables → List Seen → Explore
+between g t seen = record { given = g; tables = t; seen = seen; frames = [] }
 
 -- the sinks that the frame's node has yet to go through
-abbrev pub rest : Walk → Look → ℕ
-rest w f = degree w.graph f.node - f.sink
+abbrev pub rest : Walk → Frame → ℕ
+rest w f = degree w.graph f.node - f.next
 
 -- the walk once each frame has gone through the rest of its sinks, the last first: d more nodes may stand on the path
-unfoldable pub resume : ℕ → Walk → List Look → Walk
+unfoldable pub resume : ℕ → Walk → List Frame → Walk
 resume d w [] = w
-resume d w (f ∷ fs) = resume (suc d) (seeing (explore_sinks (λ u q. explore_from d u q) w f.node f.sink (rest w f)) f.node Explored) fs
-
--- the looks that the frames may still take, and one more for each to leave
-unfoldable pub looks : List Look → ℕ
-looks [] = 0
-looks (f ∷ fs) = suc (88 - f.sink) + looks fs
+resume d w (f ∷ fs) = resume (suc d) (seeing (explore_sinks (λ u q. explore_from d u q) w f.node f.next (rest w f)) f.node Explored) fs
 
 -- each frame's node is one of the first n
-abbrev pub Within : ℕ → List Look → Type 0
+abbrev pub Within : ℕ → List Frame → Type 0
 Within n [] = Unit {0}
 Within n (f ∷ fs) = (f.node < n) × Within n fs
 
@@ -48,20 +47,19 @@ abbrev pub walk_of : Explore → Walk
 walk_of x = record { graph = graph_of x.tables; seen = take x.tables.n x.seen; cuts = x.tables.cuts }
 
 abbrev pub answer : Explore → Walk
-answer x = resume (x.given - x.depth) (walk_of x) (stack_of no_look x.frames x.depth)
+answer x = resume (x.given - length x.frames) (walk_of x) x.frames
 
 abbrev pub effort : Explore → ℕ
-effort x = 89 * unseens (walk_of x).seen + looks (stack_of no_look x.frames x.depth)
+effort x = 89 * unseens (walk_of x).seen + looks x.frames
 
 -- the arrays have their sizes, each cut made two nodes, and each node on the path was unseen before it
 pub record Ready (x : Explore) : Type 0 where
   pub all : length x.seen ≡ 48
-  pub most : length x.frames ≡ 48
   pub named : length x.tables.names ≡ 48
   pub sound : Roomy x.tables
   pub count : x.given + 2 * x.tables.cuts ≡ x.tables.n
-  pub room : x.depth + unseens (walk_of x).seen ≤ x.given
-  pub within : Within x.tables.n (stack_of no_look x.frames x.depth)
+  pub room : length x.frames + unseens (walk_of x).seen ≤ x.given
+  pub within : Within x.tables.n x.frames
 
 -- y is x some steps on
 pub record Since (x y : Explore) : Type 0 where
@@ -80,7 +78,6 @@ pub record Kept (x y : Explore) : Type 0 where
 -- y is x once the walk from p is over
 pub record Walked (x : Explore) (p : ℕ) (y : Explore) : Type 0 where
   pub ready : Ready y
-  pub done : y.depth ≡ 0
   pub given : y.given ≡ x.given
   pub lines : y.tables.lines ≡ x.tables.lines
   pub walk : walk_of y ≡ explore_from x.given (walk_of x) p

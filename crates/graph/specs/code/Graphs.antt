@@ -6,11 +6,10 @@ use Rattle.chart.specs.declared.Board.{Board as BoardTables}
 use Rattle.chart.specs.declared.Setting.{Setting}
 use Rattle.refusals.specs.declared.Refusal.{Refusal}
 use Rattle.chart.specs.Chart.{Reading, ready as accepted, refusal as refused, chart}
-use Rattle.chart.specs.code.Filled.{empty_lines, board_of, tables_of as board_tables}
+use Rattle.chart.specs.code.Filled.{board_of, tables_of as board_tables}
 use Rattle.chart.specs.code.Reads.{Sound as SoundBoard}
 use Rattle.graph.specs.declared.Item.{Item}
 use Rattle.graph.specs.Items.{Items}
-use Rattle.graph.specs.declared.Name.TheVariants.{Nothing}
 use Rattle.graph.specs.declared.Tables.{Tables}
 use Rattle.graph.specs.Graph.{Graph, given_graph}
 use Rattle.graph.specs.Joining.{uncut}

@@ -1,6 +1,7 @@
 -- The graph that the code's tables hold, and what holds of them from step to step.
 -- Assumes nothing.
-use Rattle.std.specs.Prelude.{ℕ, zero, suc, ◌+◌, ◌*◌, ◌≤◌, ◌<◌, ◌≡◌, true, cond, ◌&&◌, List, [], ◌∷◌, ◌++◌, map, eqb, ltb, length, get_or, set, take, replicate}
+use Rattle.std.specs.List.{list_any}
+use Rattle.std.specs.Prelude.{Bool, ℕ, zero, suc, ◌+◌, ◌*◌, ◌≤◌, ◌<◌, ◌≡◌, true, cond, ◌&&◌, List, [], ◌∷◌, ◌++◌, map, eqb, ltb, length, get_or, set, take, replicate}
 use Rattle.std.proofs.Math.Option.{Option, none, some}
 use Rattle.laws.specs.Lists.{All, one, tabulate, owned_by, tally}
 use Rattle.chart.specs.declared.Item.{Item as GivenItem}
@@ -100,19 +101,27 @@ pub record Linked (t : Tables) : Type 0 where
 abbrev pub unmarked_item : GivenItem → Item
 unmarked_item x = record { owner = x.owner; to = x.to; mark = 0; at = x.at; len = x.len }
 
+-- t with one node more, of this name
+abbrev pub with_box : Tables → Name → Tables
+with_box t name = record { n = t.n + 1; cuts = t.cuts; names = set t.names t.n name; lines = t.lines; sources = t.sources; sinks = t.sinks }
+
 -- ---- what completion's functions answer
 
 -- the record of a source of q from sink i of p
 abbrev pub source_of : ℕ → ℕ → ℕ → Item
 source_of p i q = record { owner = q; to = p; mark = i + 1; at = 0; len = 0 }
 
--- the records of the sources, where sink i of p leads to the node q
-abbrev pub gained : List Item → ℕ → ℕ → ℕ → List Item
-gained xs p i q = cond (has_marked (owned q xs) p i) xs (xs ++ one (source_of p i q))
+-- whether a record has the owner, the target and the mark of x
+abbrev pub held : Item → List Item → Bool
+held x = list_any (λ (e : Item). eqb e.owner x.owner && (eqb e.to x.to && eqb e.mark x.mark))
 
--- the same, where q need not be one of the n nodes
-abbrev pub gained_in : ℕ → List Item → ℕ → ℕ → ℕ → List Item
-gained_in n xs p i q = cond (ltb q n) (gained xs p i q) xs
+-- the records of the sources, where the source x is gained
+abbrev pub gained : List Item → Item → List Item
+gained xs x = cond (held x xs) xs (xs ++ one x)
+
+-- the same, where its node need not be one of the n nodes
+abbrev pub gained_in : ℕ → List Item → Item → List Item
+gained_in n xs x = cond (ltb x.owner n) (gained xs x) xs
 
 -- the record of a sink of q to p
 abbrev pub sink_of : ℕ → ℕ → Item

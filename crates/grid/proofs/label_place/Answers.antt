@@ -1,7 +1,7 @@
 -- `label_place`: the promises of `graph`, `sheet_of` and `label_at`, by the laws of `Sheets` and `LabelPlaces`.
 -- Assumes nothing.
 use Rattle.std.proofs.Common.{◌≡◌, ◌<◌, refl, ◌∙◌, arith, rules, Option}
-use Rattle.std.specs.Prelude.{Some, None, Err}
+use Rattle.std.specs.Prelude.{Some, None}
 use Rattle.std.specs.Option.{ok_or}
 use Rattle.refusals.specs.declared.Refusal.TheVariants.{NotThere}
 use Rattle.grid.specs.declared.LabelPlace.{LabelPlace}
@@ -11,46 +11,44 @@ use Rattle.grid.proofs.Sheets.{Made, seated, firsts-are, sheet-is, sheet-refused
 use Rattle.grid.proofs.LabelPlaces.{sited, place-past, place_answer, place-refused}
 use Rattle.graph.proofs.Tabled.{graphs-of}
 use Rattle.grid.proofs.label_place.Goals as goal
-use Rattle.grid.proofs.label_place.Goals.{After-sheet_of, After-label_at, Else-g-k}
+use Rattle.grid.proofs.label_place.Goals.{After-sheet_of-sheet, After-label_at, Else-g-k}
 
 -- what `sheet_of` answers is the chart's sheet
-laid : (c : After-sheet_of) → let a = c.args in Made a.setting a.chart.now a.x a.y c.sheet_of.result
+laid : (c : After-sheet_of-sheet) → let a = c.args in Made a.setting a.chart.now a.x a.y c.sheet_of-sheet.result
 laid c =
     let f = c.first_in-first in
     let a = c.args in
-    sheet-is a.setting a.chart.now a.x a.y c.graph.result (graphs-of _ _ _ c.graph.ensures) c.in_ok-g.g c.in_ok-g.was f.result f.ensures c.sheet_of.result c.sheet_of.ensures
+    sheet-is a.setting a.chart.now a.x a.y c.graph-graphed.result (graphs-of _ _ _ c.graph-graphed.ensures) c.in-Ok.g c.in-Ok.is f.result f.ensures c.sheet_of-sheet.result c.sheet_of-sheet.ensures
 
-pub sheet_of-requires : goal.sheet_of-requires
-sheet_of-requires c =
+pub sheet_of-sheet-requires : goal.sheet_of-sheet-requires
+sheet_of-sheet-requires c =
     let w = c.args.setting in
     let s = c.args.chart.now in
-    let a = graphs-of _ _ _ c.graph.ensures in
+    let a = graphs-of _ _ _ c.graph-graphed.ensures in
     record {
-      seated = seated w s c.graph.result a c.in_ok-g.g c.in_ok-g.was c.first_in-first.result c.first_in-first.ensures;
-      first_columns = firsts-are w s c.graph.result a c.in_ok-g.g c.in_ok-g.was c.first_in-first.result c.first_in-first.ensures;
+      seated = seated w s c.graph-graphed.result a c.in-Ok.g c.in-Ok.is c.first_in-first.result c.first_in-first.ensures;
+      first_columns = firsts-are w s c.graph-graphed.result a c.in-Ok.g c.in-Ok.is c.first_in-first.result c.first_in-first.ensures;
     }
 
-pub returns-in_err-g : goal.returns-in_err-g
-returns-in_err-g c =
+pub returns-in-Err : goal.returns-in-Err
+returns-in-Err c =
     let a = c.args in
-    let e : c.from_residual.result ≡ Err c.in_err-g.field-0.0 = search rules in
-    e ∙ place-refused a.setting a.chart.now a.x a.y _ (sheet-refused a.setting a.chart.now a.x a.y c.graph.result (graphs-of _ _ _ c.graph.ensures) _ c.in_err-g.was) a.k a.i _ refl
+    place-refused a.setting a.chart.now a.x a.y _ (sheet-refused a.setting a.chart.now a.x a.y c.graph-graphed.result (graphs-of _ _ _ c.graph-graphed.ensures) _ c.in-Err.is) a.k a.i _ refl
 
-pub returns-in_err-laid : goal.returns-in_err-laid
-returns-in_err-laid c =
+pub returns-in-Err-sheet : goal.returns-in-Err-sheet
+returns-in-Err-sheet c =
     let a = c.args in
-    let e : c.from_residual-in_err-laid.result ≡ Err c.in_err-laid.field-0.0 = search rules in
-    e ∙ place-refused a.setting a.chart.now a.x a.y c.sheet_of.result (laid (goal.at.returns-in_err-laid c).After-sheet_of) a.k a.i _ c.in_err-laid.was
+    place-refused a.setting a.chart.now a.x a.y c.sheet_of-sheet.result (laid (goal.at.returns-in-Err-sheet c).After-sheet_of-sheet) a.k a.i _ c.in-Err-sheet.is
 
 pub returns-then-g-k : goal.returns-then-g-k
 returns-then-g-k c =
     let a = c.args in
-    place-past a.setting a.chart.now a.x a.y c.sheet_of.result (laid (goal.at.returns-then-g-k c).After-sheet_of) c.graph.result (graphs-of _ _ _ c.graph.ensures) c.in_ok-g.g c.in_ok-g.was c.in_ok-laid.laid c.in_ok-laid.was a.k a.i
+    place-past a.setting a.chart.now a.x a.y c.sheet_of-sheet.result (laid (goal.at.returns-then-g-k c).After-sheet_of-sheet) c.graph-graphed.result (graphs-of _ _ _ c.graph-graphed.ensures) c.in-Ok.g c.in-Ok.is c.in-Ok-sheet.laid c.in-Ok-sheet.is a.k a.i
     c.if-g-k.true
 
 -- the graph can be laid out, and a box of it is one of 48
-seat : (c : Else-g-k) → Seated c.in_ok-g.g
-seat c = seated c.args.setting c.args.chart.now c.graph.result (graphs-of _ _ _ c.graph.ensures) c.in_ok-g.g c.in_ok-g.was c.first_in-first.result c.first_in-first.ensures
+seat : (c : Else-g-k) → Seated c.in-Ok.g
+seat c = seated c.args.setting c.args.chart.now c.graph-graphed.result (graphs-of _ _ _ c.graph-graphed.ensures) c.in-Ok.g c.in-Ok.is c.first_in-first.result c.first_in-first.ensures
 
 few : (c : Else-g-k) → c.args.k < 48
 few c = omega (arith, c.if-g-k.false, (seat c).linked.nodes)
@@ -65,7 +63,7 @@ pub label_at-requires : goal.label_at-requires
 label_at-requires c =
     let a = c.args in
     let p = goal.at.label_at-requires c in
-    let z = sited a.setting a.chart.now a.x a.y c.sheet_of.result (laid p.After-sheet_of) c.graph.result (graphs-of _ _ _ c.graph.ensures) c.in_ok-g.g c.in_ok-g.was c.in_ok-laid.laid c.in_ok-laid.was a.k c.if-g-k.false in
+    let z = sited a.setting a.chart.now a.x a.y c.sheet_of-sheet.result (laid p.After-sheet_of-sheet) c.graph-graphed.result (graphs-of _ _ _ c.graph-graphed.ensures) c.in-Ok.g c.in-Ok.is c.in-Ok-sheet.laid c.in-Ok-sheet.is a.k c.if-g-k.false in
     record { seated = seat p.Else-g-k; p_lt_n = c.if-g-k.false; x_bound = z.0; y_bound = z.1 }
 
 -- what `label_at` finds is the label, or that there is none
@@ -73,9 +71,9 @@ found : (c : After-label_at) → let a = c.args in label_place_of (ready_or_15 c
 found c =
     let a = c.args in
     let f = c.first_in-first in
-    let g = graphs-of _ _ _ c.graph.ensures in
-    let m = sheet-is a.setting a.chart.now a.x a.y c.graph.result g c.in_ok-g.g c.in_ok-g.was f.result f.ensures c.sheet_of.result c.sheet_of.ensures in
-    place_answer a.setting a.chart.now a.x a.y c.sheet_of.result m c.graph.result (graphs-of _ _ _ c.graph.ensures) c.in_ok-g.g c.in_ok-g.was c.in_ok-laid.laid c.in_ok-laid.was a.k a.i c.if-g-k.false
+    let g = graphs-of _ _ _ c.graph-graphed.ensures in
+    let m = sheet-is a.setting a.chart.now a.x a.y c.graph-graphed.result g c.in-Ok.g c.in-Ok.is f.result f.ensures c.sheet_of-sheet.result c.sheet_of-sheet.ensures in
+    place_answer a.setting a.chart.now a.x a.y c.sheet_of-sheet.result m c.graph-graphed.result (graphs-of _ _ _ c.graph-graphed.ensures) c.in-Ok.g c.in-Ok.is c.in-Ok-sheet.laid c.in-Ok-sheet.is a.k a.i c.if-g-k.false
     c.label_at.result c.label_at.ensures
 
 pub returns : goal.returns

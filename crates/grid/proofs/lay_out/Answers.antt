@@ -32,7 +32,7 @@ pub laid-requires-clause-bounded_2 : goal.laid-requires-clause-bounded_2
 laid-requires-clause-bounded_2 c =
     let h = c.heights-rows in
     let k = c.columns in
-    cols_bounded c.args.g.now c.requires.seated _ _ c.ends_of-sources.ensures c.ends_of-sinks.ensures _ c.leads_of-leads.ensures h.result h.ensures c.args.first.now c.requires.first_columns k.new.cols k.ensures
+    cols_bounded c.args.g.now c.requires.seated _ _ c.ends_of-sources.ensures c.ends_of-sinks.ensures _ c.leads_of-leads.ensures h.result h.ensures c.args.first.now.items c.requires.first_columns k.new.cols k.ensures
 
 pub returns : goal.returns
 returns c =
@@ -40,4 +40,4 @@ returns c =
     let k = c.columns in
     c.laid.ensures
     ∙ ap (λ (sh : Sheet). record_of sh c.args.x c.args.y)
-    (laid-is c.args.g.now c.requires.seated _ _ c.ends_of-sources.ensures c.ends_of-sinks.ensures _ c.leads_of-leads.ensures h.result h.ensures c.args.first.now c.requires.first_columns k.new.cols k.ensures)
+    (laid-is c.args.g.now c.requires.seated _ _ c.ends_of-sources.ensures c.ends_of-sinks.ensures _ c.leads_of-leads.ensures h.result h.ensures c.args.first.now.items c.requires.first_columns k.new.cols k.ensures)

@@ -1,8 +1,7 @@
 -- What the functions of the sheet answer, over the arrays that they are handed.
 -- Assumes nothing.
-use Rattle.std.specs.Prelude.{ℕ, ◌+◌, ◌≤◌, ◌<◌, cond, ◌&&◌, List, [], ◌∷◌, ◌++◌, ltb, get_or, Option, Some, None, Result, Ok, Err}
-use Rattle.std.proofs.Math.Option.{Option as Maybe, none, some}
-use Rattle.laws.specs.Lists.{one, tabulate, padded}
+use Rattle.std.specs.Prelude.{ℕ, ◌+◌, ◌≤◌, ◌<◌, cond, ◌&&◌, List, [], ◌∷◌, ◌++◌, ltb, get_or, Result, Ok, Err}
+use Rattle.laws.specs.Lists.{tabulate, padded}
 use Rattle.graph.specs.declared.Item.{Item}
 use Rattle.graph.specs.Graph.{Edge, Node, node_at}
 use Rattle.graph.specs.code.Tables.{owned, name_line, graph_of}
@@ -117,15 +116,6 @@ abbrev pub laid_inputs : Run → List Edge → List Input
 laid_inputs r es = inputs_at r.gap r.x r.y es
 
 -- ---- curves
--- the output's x
-abbrev pub found_of : Maybe Output → Option ℕ
-found_of none = None
-found_of (some o) = Some o.x
-
-abbrev pub curve_of : Option ℕ → ℕ → ℕ → ℕ → List Curve
-curve_of (Some x0) y0 x1 y1 = one (record { x0 = x0; y0 = y0; x1 = x1; y1 = y1 })
-curve_of None y0 x1 y1 = []
-
 abbrev pub Curves : Type 0
 Curves = Table Curve 88
 

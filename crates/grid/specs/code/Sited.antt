@@ -1,17 +1,17 @@
--- How the code finds a label: in one list of ends or lines after another.
+-- How the code finds a label: in one list of labels after another.
 -- Assumes nothing.
-use Rattle.std.specs.Prelude.{ℕ, zero, suc, List, [], ◌∷◌, map, Option, Result, Ok, Err}
+use Rattle.std.specs.Prelude.{ℕ, cond, ltb, map, Option, Some, None}
 use Rattle.graph.specs.Graph.{Node}
 use Rattle.grid.specs.declared.LabelPlace.{LabelPlace}
-use Rattle.grid.specs.RenderNode.{Text, drawn}
+use Rattle.grid.specs.declared.TextPlace.TheVariants.{InChart}
+use Rattle.grid.specs.declared.render_node.row.End.{End}
+use Rattle.grid.specs.RenderNode.{drawn}
 use Rattle.grid.specs.RenderGrid.{text_moved}
-use Rattle.grid.specs.Labels.{place_of, label_at}
+use Rattle.grid.specs.Labels.{label_at}
 
--- entry i of the texts; where they have none, how many more are to be passed
-abbrev pub seek : List Text → ℕ → Result LabelPlace ℕ
-seek [] i = Err i
-seek (t ∷ ts) zero = Ok (place_of t)
-seek (t ∷ ts) (suc i) = seek ts i
+-- the label of an end, at height y; it has none without a text
+abbrev pub end_place : ℕ → End → Option LabelPlace
+end_place y e = cond (ltb 0 e.item.len) (Some (record { x = e.x; y = y; size = 232; width = e.width; text = InChart e.item.at e.item.len })) None
 
 -- label i of a node whose box is at x and y
 abbrev pub node_label : Node → ℕ → ℕ → ℕ → Option LabelPlace

@@ -4,6 +4,7 @@ use Rattle.std.specs.Prelude.{ℕ, zero, suc, ◌+◌, ◌-◌, ◌*◌, ◌≤�
 use Rattle.std.specs.Prelude as code
 use Rattle.std.proofs.Math.Option.{Option, none, some}
 use Rattle.laws.specs.Lists.{All, stack_of}
+use Rattle.tables.specs.declared.Table.{Table}
 use Rattle.graph.specs.Shape.{Shape, incidents_at}
 use Rattle.grid.specs.declared.heights.Frame.{Frame}
 use Rattle.grid.specs.Columns.{incidents}
@@ -66,20 +67,23 @@ unfoldable pub looks : List Frame → ℕ
 looks [] = 0
 looks (f ∷ fs) = suc (176 - f.at) + looks fs
 
--- the walk's state, of which the code has each part in a variable: the rows, and the path, the first depth frames
+-- the walk's state: the rows, and the frames of the path
 pub record Path : Type 0 where
   pub rows : List (code.Option ℤ)
-  pub frames : List Frame
-  pub depth : ℕ
+  pub frames : Table Frame 48
+
+-- the frames, the last first
+abbrev pub on_path : Table Frame 48 → List Frame
+on_path t = stack_of no_frame t.items t.count
 
 abbrev pub reached : ℕ → Path → Rows
 reached n s = reached_in n s.rows
 
 abbrev pub answer : Shape → Path → Rows
-answer g s = resume g (length g - s.depth) (reached (length g) s) (stack_of no_frame s.frames s.depth)
+answer g s = resume g (length g - s.frames.count) (reached (length g) s) (on_path s.frames)
 
 abbrev pub effort : ℕ → Path → ℕ
-effort n s = 177 * unseen (reached n s) + looks (stack_of no_frame s.frames s.depth)
+effort n s = 177 * unseen (reached n s) + looks (on_path s.frames)
 
 -- The row of a frame is as far from the first one's, 0, as the path is long, at most.
 pub record Framed (n : ℕ) (fs : List Frame) (d : ℕ) : Type 0 where
@@ -89,9 +93,9 @@ pub record Framed (n : ℕ) (fs : List Frame) (d : ℕ) : Type 0 where
 -- each node on the path had no row before it
 pub record Good (n : ℕ) (s : Path) : Type 0 where
   pub each : length s.rows ≡ n
-  pub most : length s.frames ≡ 48
-  pub room : s.depth + unseen (reached n s) ≤ n
-  pub framed : Framed n s.frames s.depth
+  pub most : length s.frames.items ≡ 48
+  pub room : s.frames.count + unseen (reached n s) ≤ n
+  pub framed : Framed n s.frames.items s.frames.count
 
 pub record Stepped (g : Shape) (s r : Path) : Type 0 where
   pub good : Good (length g) r

@@ -14,4 +14,4 @@ returns-in-Ok g c =
 pub returns-in-Err : goal.returns-in-Err
 unfolding listing_of
 returns-in-Err g c =
-    rw (refusal-line (sheeted c.args.setting c.args.chart.now 0 0) _ (sym c.in-Err.is ∙ c.sheet.ensures.whole), ← c.numbers.ensures) c.print_refusal.ensures
+    rw (refusal-line (sheeted c.args.setting c.args.chart.now 0 0) _ (sym c.in-Err.is ∙ c.sheet.ensures.whole), ← c.numbers.ensures) c.writeln.ensures.bytes

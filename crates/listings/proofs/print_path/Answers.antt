@@ -8,4 +8,4 @@ pub returns-in-Ok : goal.returns-in-Ok
 returns-in-Ok g c = rw (text-line c.write_sheet.ensures c.in-Ok.is) c.print_text.ensures
 
 pub returns-in-Err : goal.returns-in-Err
-returns-in-Err g c = rw (refused-line (omega arith) c.write_sheet.ensures c.in-Err.is, ← c.numbers.ensures) c.print_refusal.ensures
+returns-in-Err g c = rw (refused-line (omega arith) c.write_sheet.ensures c.in-Err.is, ← c.numbers.ensures) c.writeln.ensures.bytes

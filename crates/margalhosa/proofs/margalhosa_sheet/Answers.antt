@@ -11,11 +11,11 @@ returns-in-Ok c =
     let a = c.args in
     let w = setting_of a.setting in
     let is : IsSheet w a.chart.now a.x a.y c.sheet.result = rw c.setting_of.ensures at c.sheet.ensures in
-    sheet-is w a.chart.now a.x a.y c.sheet.result is c.sheet_by.result (c.sheet_by.ensures ∙ sym (ap sheet_result c.in-Ok.is))
+    sheet-is w a.chart.now a.x a.y c.sheet.result is _ (sym (ap sheet_result c.in-Ok.is))
 
 pub returns-in-Err : goal.returns-in-Err
 returns-in-Err c =
     let a = c.args in
     let w = setting_of a.setting in
     let is : IsSheet w a.chart.now a.x a.y c.sheet.result = rw c.setting_of.ensures at c.sheet.ensures in
-    sheet-is w a.chart.now a.x a.y c.sheet.result is c.sheet_by-in-Err.result (c.sheet_by-in-Err.ensures ∙ rw (c.first_of.ensures, c.second_of.ensures, c.no_sheet.ensures, c.in-Err.is))
+    sheet-is w a.chart.now a.x a.y c.sheet.result is _ (rw (c.first_of.ensures, c.second_of.ensures, c.no_sheet.ensures, c.in-Err.is))

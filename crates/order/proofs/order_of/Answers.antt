@@ -19,10 +19,7 @@ returns-then-not-linked c =
     ] in
     columns-none n s k e
 
-pub first_of-requires : goal.first_of-requires
-first_of-requires c = record { linked = c.linked.ensures.linked c.if-not-linked.false; linked_2 = c.linked-else-not-linked.ensures.linked c.if-not-linked-2.false }
-
 pub returns : goal.returns
 returns c =
     columns-are c.args.n c.args.sources.now c.args.sinks.now (c.linked.ensures.linked c.if-not-linked.false) (c.linked-else-not-linked.ensures.linked c.if-not-linked-2.false)
-    c.first_of.result c.first_of.ensures.columns
+    c.first_of.result c.first_of.ensures

@@ -5,6 +5,8 @@ use Rattle.std.specs.Prelude.{ℕ, zero, suc, ◌+◌, ◌-◌, ◌*◌, ◌/◌
 use Rattle.graph.specs.Shape.{Shape}
 use Rattle.order.specs.Against.{Against, all}
 use Rattle.order.specs.Claims.{Aimed}
+use Rattle.order.specs.declared.weights.Round.{Round}
+use Rattle.order.specs.declared.weights.Round.TheVariants.{First, Second}
 use Rattle.order.specs.code.Keys.{placed_key}
 use Rattle.order.specs.Weights.{Table, before_of, after_of, weights}
 
@@ -86,12 +88,10 @@ ways_of l a c k = sum_up (leg_of l a c) k (c - suc k)
 abbrev pub takes : Bool → ℕ → Bool
 takes make v = make || ltb 0 v
 
--- whether missing pairs are made in round 1, and in round 2
-abbrev pub makes₁ : Bool
-makes₁ = true
-
-abbrev pub makes₂ : Bool
-makes₂ = false
+-- whether missing pairs are made in a round
+abbrev pub makes : Round → Bool
+makes First = true
+makes Second = false
 
 -- what the way over b adds to the pair of a and c, and what the pair has with all ways over nodes after k
 abbrev pub way_of : Bool → List ℕ → ℕ → ℕ → ℕ → ℕ

@@ -17,7 +17,7 @@ loop-j-init c = refl
 pub loop-j-preserved : goal.loop-j-preserved
 loop-j-preserved c =
     let j = c.loop-j.j in
-    c.put_stand_in.ensures ∙ ap (λ (t : List ℕ). put t (length (stand_ins_to j)) (stand_in j)) c.loop-j.invariant ∙ text-put zeros j
+    c.put.ensures ∙ ap (λ (t : List ℕ). put t (length (stand_ins_to j)) (stand_in j)) c.loop-j.invariant ∙ text-put zeros j
 
 pub returns : goal.returns
 unfolding stand_ins

@@ -1,11 +1,11 @@
 -- A sheet's segments by number, as the code has them: in whole numbers, the origin added. (`Segments` is the meaning; `by_number` of proofs/Sheets.antt
 -- shows that this is it.)
 -- Assumes nothing.
-use Rattle.std.specs.Prelude.{◌≡◌, cond, List, ◌∷◌, ℕ, zero, suc, ◌+◌, ◌-◌, ◌*◌, ◌/◌, ◌%◌, ◌≤◌, ltb, get_or}
+use Rattle.std.specs.Prelude.{◌≡◌, true, length, cond, List, ◌∷◌, ℕ, zero, suc, ◌+◌, ◌-◌, ◌*◌, ◌/◌, ◌%◌, ◌≤◌, ltb, get_or}
 use Rattle.grid.specs.declared.BoxRecord.{BoxRecord}
 use Rattle.grid.specs.declared.Curve.{Curve}
 use Rattle.grid.specs.declared.SheetRecord.{SheetRecord}
-use Rattle.grid.specs.Record.{no_box, no_curve}
+use Rattle.grid.specs.Record.{no_box, no_curve, sound_of}
 use Rattle.path.specs.declared.drawn.Drawn.{Drawn}
 use Rattle.path.specs.declared.drawn.Drawn.TheVariants.{Move, Line, Cubic, Close}
 use Rattle.path.specs.declared.stroke.Stroke.{Stroke}
@@ -36,6 +36,10 @@ box_stroke x y b (suc (suc (suc (suc k)))) = close
 abbrev pub curve_stroke : ℕ → ℕ → Curve → ℕ → Stroke
 curve_stroke x y c zero = move (x + c.x0) (y + c.y0)
 curve_stroke x y c (suc k) = curve (x + c.x0) (y + c.y0) (x + c.x1) (y + c.y1)
+
+-- a sound sheet; its arrays are as long as their types say
+abbrev pub IsSound : SheetRecord → Type 0
+IsSound s = (sound_of s ≡ true) × (length s.boxes ≡ 48) × (length s.curves ≡ 88)
 
 -- t is segment k of ds, and no position of it is past the limit
 pub record IsStroke (ds : List Drawn) (k : ℕ) (t : Stroke) : Type 0 where

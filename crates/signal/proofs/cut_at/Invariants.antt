@@ -3,5 +3,5 @@
 use Rattle.signal.proofs.Codes.{Cut}
 use Rattle.signal.proofs.cut_at.Given as goal
 
-abbrev pub invariant-loop-k : goal.invariant-loop-k
-invariant-loop-k l = Cut l.path l.q l.nodes l.k
+abbrev pub invariant-loop-node : goal.invariant-loop-node
+invariant-loop-node l = Cut l.path l.q l.nodes l.node-iterator.iter.rest.now

@@ -11,7 +11,7 @@ use Rattle.signal.proofs.ordered_of.Goals as goal
 pub returns : goal.returns
 returns c =
     let t = c.args.g in
-    c.signal_order_of.ensures
+    c.order.ensures
     ∙ ap (λ x. answer_of (signalled_by t.n (sources_of x))) c.as_slice.ensures.items
     ∙ ap (λ (x : Ends). answer_of (signalled_by t.n (sources_of (take x.count x.items)))) c.ends_of-ends.ensures
     ∙ ap answer_of (leads_hold t c.requires.linked)

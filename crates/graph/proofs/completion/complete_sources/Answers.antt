@@ -12,12 +12,6 @@ inside c =
     let l = c.loop-k in
     omega (arith, c.loop-k-test.true, l.invariant.count, table-size l.t.sources c.as_slice.ensures.long l.invariant.fit.linked.source_room)
 
-pub bounds-as_slice-k : goal.bounds-as_slice-k
-bounds-as_slice-k c = rw c.as_slice.ensures.items (inside (goal.at.bounds-as_slice-k c).After-as_slice)
-
-pub gain_sink-requires-clause-k_lt_count : goal.gain_sink-requires-clause-k_lt_count
-gain_sink-requires-clause-k_lt_count c = inside (goal.at.gain_sink-requires-clause-k_lt_count c).After-as_slice
-
 pub loop-k-preserved : goal.loop-k-preserved
 loop-k-preserved c =
     let l = c.loop-k in

@@ -53,4 +53,4 @@ returns c =
     (rw (xs, c.as_slice-2.ensures.items) at (sym c.leads_to.ensures ∙ c.if-leads_to.false))
     c.count_owned-number.result (counted at) _ c.push.new.self
     (stored-is t.sources c.as_slice.ensures.long r.owned.source_room c.args.k h (mark_item (c.count_owned-number.result + 1)), refl)
-    (pushed-is t.sinks c.push.ensures.long r.owned.sink_room r.count_bound (sink_of (x at).owner (x at).to) c.push.result c.push.ensures.room c.push.new.self (rw xs at c.push.ensures.table))
+    (pushed-is t.sinks c.push.ensures.long r.owned.sink_room r.count_bound (sink_of (x at).owner (x at).to) c.push.result c.push.ensures.room c.push.new.self (rw (c.sink_of.ensures, xs) at c.push.ensures.table))

@@ -1,13 +1,11 @@
--- `completion::has_marked`: what `any` answers, and the records that are owned.
+-- `completion::has_marked`: what `any` answers.
 -- Assumes nothing.
-use Rattle.std.proofs.Common.{rules, tests, ◌∙◌, ◌&&◌, ◌+◌, eqb}
+use Rattle.std.proofs.Common.{rules, tests, ◌&&◌, eqb}
 use Rattle.std.proofs.lemmas.Iterator.{YieldsList-from_slice}
 use Rattle.std.proofs.lemmas.Iterator.Search.{any_from_yields_List}
 use Rattle.graph.specs.declared.Item.{Item}
-use Rattle.graph.proofs.Lists.{any-marked}
 use Rattle.graph.proofs.completion.has_marked.Goals as goal
 
 pub returns : goal.returns
 returns c =
-    any_from_yields_List (λ (e : Item). eqb e.owner c.args.q && (eqb e.to c.args.p && eqb e.mark (c.args.i + 1))) _ _ _ c.any.ensures.ran (YieldsList-from_slice c.args.items.now cc) (λ x b q k. search (rules, tests))
-    ∙ any-marked c.args.q c.args.p c.args.i c.args.items.now
+    any_from_yields_List (λ (e : Item). eqb e.owner c.args.x.owner && (eqb e.to c.args.x.to && eqb e.mark c.args.x.mark)) _ _ _ c.any.ensures.ran (YieldsList-from_slice c.args.items.now cc) (λ x b q k. search (rules, tests))

@@ -30,19 +30,20 @@ loop-k-preserved-then-e-p c =
       )
     ]
 
-pub bounds-t-m : goal.bounds-t-m
-bounds-t-m c =
-    let z = goal.at.bounds-t-m c in
+pub add_box-a-requires : goal.add_box-a-requires
+add_box-a-requires c =
+    let z = goal.at.add_box-a-requires c in
     sources-room c.args.t.now c.args.n c.args.p c.requires.p_lt_n (fits z.Start) c.loop-k.t c.loop-k.invariant.1.0 c.loop-k.k c.loop-k.invariant.1.1 (inside z.In-loop-k) c.if-e-p.false c.if-e-n.false
 
 pub loop-k-preserved : goal.loop-k-preserved
 loop-k-preserved c =
-    let z = goal.at.loop-k-preserved c in (
+    let z = goal.at.loop-k-preserved c in
+    rw (c.add_box-a.ensures.node, c.add_box-a.ensures.table) (
       simp length-set c.loop-k.invariant.0,
       (
         c.loop-k.invariant.1.0 + 1,
         (sources-joined c.args.t.now c.args.n c.args.p c.requires.p_lt_n (fits z.Start) c.loop-k.t c.loop-k.invariant.1.0 c.loop-k.k c.loop-k.invariant.1.1 (inside z.In-loop-k) c.if-e-p.false c.if-e-n.false c.loop-k.invariant.0
-            c.push.ensures.long c.push.result c.push.new.self c.push.ensures.room (rw c.sink_of.ensures at c.push.ensures.table)),
+            (rw c.add_box-a.ensures.table at c.push.ensures.long) c.push.result c.push.new.self (rw c.add_box-a.ensures.table at c.push.ensures.room) (rw (c.sink_of.ensures, c.add_box-a.ensures.node, c.add_box-a.ensures.table) at c.push.ensures.table)),
       ),
     )
 

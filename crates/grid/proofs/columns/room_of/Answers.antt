@@ -22,13 +22,15 @@ loop-k-preserved c =
     let l = c.loop-k in
     let hr = rows_long (goal.at.loop-k-preserved c).In-loop-k in
     let hc = c.loop-k-test.true in
-    let left = λ (b : Bool). left_met a.r a.x a.rows.now a.cols.now l.k hr hc b l.low in
-    let right = λ (b : Bool). right_met a.r a.x a.rows.now a.cols.now l.k hr hc b l.next in
-    let far : Bool = eqb (at a.rows.now l.k) a.r in
+    let r = at a.rows.now a.p in
+    let x = at a.cols.now a.p in
+    let left = λ (b : Bool). left_met r x a.rows.now a.cols.now l.k hr hc b l.low in
+    let right = λ (b : Bool). right_met r x a.rows.now a.cols.now l.k hr hc b l.next in
+    let far : Bool = eqb (at a.rows.now l.k) r in
     elim c.if-rows-k.branch [
       | then-rows-k+then-c-x w ↦ (
         left true _ (rw (eq-eqb _ _ w.if-rows-k.true, lt-ltb _ _ w.if-c-x.true) refl) (w.low-is ∙ w.max-low.ensures) l.invariant.0,
-        right false _ (rw (le-ltb a.x (at a.cols.now l.k) (omega (arith, w.if-c-x.true))) (and_false far)) w.next-is l.invariant.1,
+        right false _ (rw (le-ltb x (at a.cols.now l.k) (omega (arith, w.if-c-x.true))) (and_false far)) w.next-is l.invariant.1,
       )
       | then-rows-k+else-c-x+then-x-c w ↦ (
         left false _ (rw (le-ltb _ _ w.if-c-x.false) (and_false far)) w.low-is l.invariant.0,
@@ -43,11 +45,11 @@ loop-k-preserved c =
     ]
 
 -- where all boxes are met
-right-is : (c : After-loop-k) → held c.loop-k.next ≡ right_of c.args.rows.now c.args.cols.now c.args.r c.args.x
+right-is : (c : After-loop-k) → held c.loop-k.next ≡ right_of c.args.rows.now c.args.cols.now (at c.args.rows.now c.args.p) (at c.args.cols.now c.args.p)
 right-is c =
     let a = c.args in
     let l = c.loop-k in
-    sym (nearest-none (held l.next)) ∙ ap (nearest (held l.next)) (sym (at_drop_all (λ rs. right_of rs (drop l.k a.cols.now) a.r a.x) a.rows.now l.k (omega (arith, c.requires.boxes.cols_long)))) ∙ l.invariant.1
+    sym (nearest-none (held l.next)) ∙ ap (nearest (held l.next)) (sym (at_drop_all (λ rs. right_of rs (drop l.k a.cols.now) (at a.rows.now a.p) (at a.cols.now a.p)) a.rows.now l.k (omega (arith, c.requires.boxes.cols_long)))) ∙ l.invariant.1
 
 some-beyond : (x : ℕ) (o : Option ℕ) → Beyond x (held o) → 1 ≤ unwrap_or o (x + 1)
 some-beyond x None h = omega arith
@@ -57,4 +59,4 @@ pub overflow_sub-result : goal.overflow_sub-result
 overflow_sub-result c =
     let a = c.args in
     let e = right-is (goal.at.overflow_sub-result c).After-loop-k in
-    rw c.unwrap_or-2.ensures (some-beyond a.x c.loop-k.next (rw e (right-beyond a.r a.x a.rows.now a.cols.now)))
+    rw c.unwrap_or-2.ensures (some-beyond (at a.cols.now a.p) c.loop-k.next (rw e (right-beyond (at a.rows.now a.p) (at a.cols.now a.p) a.rows.now a.cols.now)))

@@ -5,9 +5,10 @@ use Rattle.grid.specs.Heights.{reached_from}
 use Rattle.grid.specs.code.Walk.{Path, Good, answer, effort}
 use Rattle.grid.proofs.heights.walk_from.Given as goal
 
-abbrev pub invariant-loop-depth : goal.invariant-loop-depth
-invariant-loop-depth l = let s : Path = record { rows = l.rows; frames = l.frames; depth = l.depth } in
+abbrev pub invariant-loop-f : goal.invariant-loop-f
+invariant-loop-f l =
+    let s : Path = record { rows = l.rows; frames = l.path } in
     Good (length l.leads) s × (answer l.leads s ≡ reached_from l.leads l.p)
 
-abbrev pub decreases-loop-depth : goal.decreases-loop-depth
-decreases-loop-depth l = effort (length l.leads) (record { rows = l.rows; frames = l.frames; depth = l.depth })
+abbrev pub decreases-loop-f : goal.decreases-loop-f
+decreases-loop-f l = effort (length l.leads) (record { rows = l.rows; frames = l.path })

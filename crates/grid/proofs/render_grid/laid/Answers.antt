@@ -147,14 +147,14 @@ place-requires c =
     let z = (goal.at.place-requires c).After-largest_of-last_row in
     rw (boxes-are z) (placeable (g z) z.requires.seated z.args.cols.now z.args.rows.now (cols-room z) (rows-room z) z.requires.bounded_2 (low_rows z))
 
-pub all_curves-drawn-requires-clause-inputs : goal.all_curves-drawn-requires-clause-inputs
-all_curves-drawn-requires-clause-inputs c =
-    let z = (goal.at.all_curves-drawn-requires-clause-inputs c).After-largest_of-last_row in
+pub all_curves-requires-clause-inputs : goal.all_curves-requires-clause-inputs
+all_curves-requires-clause-inputs c =
+    let z = (goal.at.all_curves-requires-clause-inputs c).After-largest_of-last_row in
     inputs-small z _ _ c.lay-width.ensures.starts c.lay-height.ensures.starts c.place.new.boxes c.place.ensures
 
-pub all_curves-drawn-requires-clause-outputs : goal.all_curves-drawn-requires-clause-outputs
-all_curves-drawn-requires-clause-outputs c =
-    let z = (goal.at.all_curves-drawn-requires-clause-outputs c).After-largest_of-last_row in
+pub all_curves-requires-clause-outputs : goal.all_curves-requires-clause-outputs
+all_curves-requires-clause-outputs c =
+    let z = (goal.at.all_curves-requires-clause-outputs c).After-largest_of-last_row in
     outputs-small z _ _ c.lay-width.ensures.starts c.lay-height.ensures.starts c.place.new.boxes c.place.ensures
 
 pub overflow_add-result : goal.overflow_add-result
@@ -166,7 +166,7 @@ overflow_add-result-2 c = omega (arith, low-most (goal.at.overflow_add-result-2 
 pub overflow_cast-result-2 : goal.overflow_cast-result-2
 overflow_cast-result-2 c =
     let z = (goal.at.overflow_cast-result-2 c).After-largest_of-last_row in
-    omega (arith, few z _ _ c.lay-width.ensures.starts c.lay-height.ensures.starts c.place.new.boxes c.place.ensures _ c.all_curves-drawn.ensures)
+    omega (arith, few z _ _ c.lay-width.ensures.starts c.lay-height.ensures.starts c.place.new.boxes c.place.ensures _ c.all_curves.ensures)
 
 pub returns : goal.returns
 returns c =
@@ -180,7 +180,7 @@ returns c =
     let right = c.largest_of-last_column.result in
     let low = c.largest_of-last_row.result in
     laid-is (g z) z.requires.seated a.cols.now a.rows.now (cols-room z) (rows-room z) z.requires.bounded_2 (low_rows z) xs ys (xs-at z xs ys xs-is ys-is bs c.place.ensures) (ys-at z xs ys xs-is ys-is bs c.place.ensures)
-    right low c.lay-width.result c.lay-height.result (bs ++ drop (g z).n z.render_nodes.new.boxes) c.all_curves-drawn.result z.largest_of-last_column.ensures z.largest_of-last_row.ensures
+    right low c.lay-width.result c.lay-height.result (bs ++ drop (g z).n z.render_nodes.new.boxes) c.all_curves.new.all z.largest_of-last_column.ensures z.largest_of-last_row.ensures
     (c.lay-width.ensures.size ∙ both (λ (ps ss : List ℕ). begins 1024 ps ss right + extent ps ss right + 128) _ _ _ _ (columns z) (wide z))
     (c.lay-height.ensures.size ∙ both (λ (ps ss : List ℕ). begins 2048 ps ss low + extent ps ss low + 128) _ _ _ _ (rows z) (tall z))
-    (array-is z xs ys xs-is ys-is bs c.place.ensures) (curves-as z xs ys xs-is ys-is bs c.place.ensures _ c.all_curves-drawn.ensures) a.x a.y
+    (array-is z xs ys xs-is ys-is bs c.place.ensures) (curves-as z xs ys xs-is ys-is bs c.place.ensures _ c.all_curves.ensures) a.x a.y

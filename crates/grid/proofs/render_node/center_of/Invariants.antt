@@ -16,6 +16,6 @@ left ls name p k = map given (owned_lines p (drop k ls)) ++ name_line name
 
 abbrev pub invariant-loop-e : goal.invariant-loop-e
 invariant-loop-e l =
-    (max l.longest (largest (map line_length (left l.lines l.name l.p l.e-index))) ≡ largest (map line_length (left l.lines l.name l.p 0)))
-    × (l.count + length (left l.lines l.name l.p l.e-index) ≡ length (left l.lines l.name l.p 0))
+    (max l.longest (largest (map line_length (left l.e-items l.name l.p l.e-index))) ≡ largest (map line_length (left l.e-items l.name l.p 0)))
+    × (l.count + length (left l.e-items l.name l.p l.e-index) ≡ length (left l.e-items l.name l.p 0))
     × (l.count ≤ l.e-index)

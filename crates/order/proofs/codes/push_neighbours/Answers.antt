@@ -1,25 +1,18 @@
--- `codes::push_neighbours` meets its contract: the codes of the targets before k are pushed.
+-- `codes::push_neighbours` meets its contract: the codes of the neighbours that are left are still to be pushed.
 -- Assumes nothing.
-use Rattle.std.proofs.Common.{◌≡◌, ℕ, suc, ◌+◌, ◌-◌, ap, ◌∙◌, arith, length}
-use mathlib.Core.Path.{subst}
-use Rattle.laws.specs.Lists.{tabulate}
-use Rattle.order.specs.code.Codes.{Pushed}
-use Rattle.order.proofs.Pushed.{neighbour_code, neighbours-are, pushed-next}
+use Rattle.std.proofs.Common.{◌+◌, ◌≤◌, ◌∙◌, arith, length, map}
+use lib.ListN.{length-map}
+use Rattle.order.specs.Against.{neighbours}
+use Rattle.order.specs.code.Sums.{code_of}
+use Rattle.order.proofs.Pushed.{length-neighbours, neighbours-next, left-next}
 use Rattle.order.proofs.codes.push_neighbours.Goals as goal
 
-pub loop-k-preserved : goal.loop-k-preserved
-loop-k-preserved c =
-    let l = c.loop-k in
+pub loop-pair-preserved : goal.loop-pair-preserved
+loop-pair-preserved c =
+    let l = c.loop-pair in
+    let s = c.in-Some.ensures.steps in
+    let rest = l.pair-iterator.rest.now in
     let to = c.args.to.now in
-    let f = neighbour_code to in
-    let here : l.k ≡ 1 + (l.k - 1) = omega arith in
-    let next : suc (l.k - 1) ≡ l.k + 1 - 1 = omega arith in
-    let p = pushed-next f 1 (l.k - 1) c.code.result c.args.codes.now l.codes c.push.new.self c.push.result l.invariant.1 (omega arith) (c.code.ensures ∙ ap f here) c.push.ensures.long c.push.ensures.room c.push.ensures.table in
-    (omega arith, subst (λ (k : ℕ). Pushed c.args.codes.now c.push.new.self (tabulate f 1 k)) next p)
-
-pub returns : goal.returns
-returns c =
-    let l = c.loop-k in
-    let to = c.args.to.now in
-    let e : l.k - 1 ≡ length to - 1 = omega arith in
-    subst (Pushed c.args.codes.now l.codes) (ap (tabulate (neighbour_code to) 1) e ∙ neighbours-are to) l.invariant.1
+    let e = neighbours-next l.pair-iterator.size rest c.in-Some.pair.now _ l.invariant.0 s.1.0 s.1.1 s.1.2 in
+    let room : c.args.codes.now.count + length (map code_of (neighbours to)) ≤ 352 = omega (arith, length-map (neighbours to) code_of, length-neighbours to, c.requires) in
+    (s.0 ∙ l.invariant.0, left-next c.args.codes.now l.codes c.push.new.self _ _ c.code.result _ c.push.result room (rw (e) at l.invariant.1) c.code.ensures c.push.ensures.long c.push.ensures.room c.push.ensures.table)

@@ -1,10 +1,10 @@
--- `codes::push_neighbours` meets its contract: the codes of the targets before k are pushed.
+-- `codes::push_neighbours` meets its contract: the codes of the neighbours that are left are still to be pushed.
 -- Assumes nothing.
-use Rattle.std.proofs.Common.{◌-◌, ◌≤◌, length}
-use Rattle.laws.specs.Lists.{tabulate}
-use Rattle.order.specs.code.Codes.{Pushed}
-use Rattle.order.proofs.Pushed.{neighbour_code}
+use Rattle.std.proofs.Common.{◌≡◌, map}
+use Rattle.order.specs.Against.{neighbours}
+use Rattle.order.specs.code.Sums.{code_of}
+use Rattle.order.proofs.Pushed.{Left}
 use Rattle.order.proofs.codes.push_neighbours.Given as goal
 
-abbrev pub invariant-loop-k : goal.invariant-loop-k
-invariant-loop-k l = (l.k - 1 ≤ length l.to - 1) × Pushed l.initial.codes l.codes (tabulate (neighbour_code l.to) 1 (l.k - 1))
+abbrev pub invariant-loop-pair : goal.invariant-loop-pair
+invariant-loop-pair l = (l.pair-iterator.size ≡ 2) × Left l.initial.codes l.codes (map code_of (neighbours l.to)) (map code_of (neighbours l.pair-iterator.rest.now))

@@ -18,7 +18,7 @@ loop-e-preserved c =
     elim c.if-e-p.branch [
       | then-e-p w ↦
           w.to-is
-          ∙ held-one ts _ l.to w.push.new.self w.push.result l.invariant (omega (arith, targets-few p (take l.e-index es), length-take-le l.e-index es (omega arith))) w.push.ensures.room w.push.ensures.table
+          ∙ held-one 88 ts _ l.to w.push.new.self w.push.result l.invariant (omega (arith, targets-few p (take l.e-index es), length-take-le l.e-index es (omega arith))) w.push.ensures.room w.push.ensures.table
           ∙ ap held (sym (targets-own p es l.e-index h w.if-e-p.true))
       | else-e-p w ↦ w.to-is ∙ l.invariant ∙ ap held (sym (targets-other p es l.e-index h w.if-e-p.false))
     ]

@@ -1,14 +1,15 @@
 -- `columns::first_columns` meets its contract: what it makes is what the laws of proofs/Whole.antt speak of.
 -- Assumes nothing.
-use Rattle.std.proofs.Common.{◌≡◌, ◌∙◌, ap, ℕ, List, ◌-◌, ◌++◌, length, replicate}
+use Rattle.std.proofs.Common.{◌≡◌, ◌∙◌, ap, ℕ, List, length}
 use Rattle.graph.specs.Shape.{Shape}
 use Rattle.order.specs.Chains.{columns}
+use Rattle.order.specs.Ordered.{columns_held}
 use Rattle.order.specs.declared.chains.Held.{Held}
 use Rattle.order.specs.code.Held.{laid_first, laid_of}
 use Rattle.order.specs.code.Keys.{held_after}
 use Rattle.order.specs.code.Sums.{Codes}
 use Rattle.order.proofs.Start.{coded}
-use Rattle.order.proofs.Whole.{keys_of, held_of, starts_of, few-at, keyed-at, fit_at, ready_at, inside-at, columns-at, each_at}
+use Rattle.order.proofs.Whole.{keys_of, held_of, starts_of, few-at, keyed-at, fit_at, ready_at, inside-at, columns-at}
 use Rattle.order.proofs.columns.first_columns.Goals as goal
 use Rattle.order.proofs.columns.first_columns.Goals.{After-as_slice, After-chained-h, After-columns_of, After-starts_of-starts}
 
@@ -25,7 +26,7 @@ starts-eq c e = c.starts_of-starts.ensures ∙ ap (λ (v : Held). (laid_of c.arg
 is-columns : (c : After-columns_of) →
     c.chained-h.result ≡ held_of c.args.codes.now c.pair_weights.new.sums c.args.n →
     c.starts_of-starts.result ≡ starts_of c.args.codes.now c.pair_weights.new.sums c.args.n →
-    (g : Shape) → Codes g c.args.codes.now → length g ≡ c.args.n → c.columns_of.result ≡ columns g ++ replicate (48 - c.args.n) 0
+    (g : Shape) → Codes g c.args.codes.now → length g ≡ c.args.n → c.columns_of.result ≡ columns_held (columns g)
 is-columns c e i g d l = rw (c.columns_of.ensures, e, i) (columns-at c.args.codes.now c.args.n c.pair_weights.new.sums c.pair_weights.ensures g d l)
 
 pub sort-requires-clause-coded : goal.sort-requires-clause-coded
@@ -49,6 +50,4 @@ pub returns : goal.returns
 returns c =
     let p = goal.at.returns c in
     let e = chains-eq p.After-chained-h (keys-eq p.After-as_slice) in
-    let is = is-columns p.After-columns_of e (starts-eq p.After-starts_of-starts e) in
-    let w = c.requires in
-    record { columns = is; each = rw (is w.graph w.codes w.size) (each_at c.args.n w.graph w.codes.aimed w.size) }
+    is-columns p.After-columns_of e (starts-eq p.After-starts_of-starts e)

@@ -5,7 +5,8 @@ use mathlib.Core.Path.{◌≡◌, subst, ◌∙◌}
 use mathlib.Core.Bool.{Bool}
 use mathlib.Core.List.{List}
 use lib.ListN.{length, replicate}
-use Rattle.order.specs.code.Sums.{tallied, makes₁, makes₂, Rows, RoundFits}
+use Rattle.order.specs.declared.weights.Round.TheVariants.{First, Second}
+use Rattle.order.specs.code.Sums.{tallied, makes, Rows, RoundFits}
 use Rattle.order.proofs.Start.{coded}
 use Rattle.order.proofs.Weighs.{zeros-at, fits-first, fits-second, weighed}
 use Rattle.order.proofs.weights.pair_weights.Goals as goal
@@ -23,21 +24,21 @@ tally-requires c =
     let w = c.requires.charted in
     record { room = w.codes.room; coded = coded w.graph c.args.codes.now w.codes; by_index = λ i. rw c.requires.sums_value (zeros-at 1128 i) }
 
-pub round-requires : goal.round-requires
-round-requires c =
+pub run-requires : goal.run-requires
+run-requires c =
     let w = c.requires.charted in
-    subst (λ (k : ℕ). RoundFits makes₁ k c.tally.new.sums) w.size (fits-first w.graph c.args.codes.now w.codes c.tally.new.sums (counted (goal.at.round-requires c).After-tally))
+    subst (λ (k : ℕ). RoundFits (makes First) k c.tally.new.sums) w.size (fits-first w.graph c.args.codes.now w.codes c.tally.new.sums (counted (goal.at.run-requires c).After-tally))
 
-pub round-requires-2 : goal.round-requires-2
-round-requires-2 c =
+pub run-requires-2 : goal.run-requires-2
+run-requires-2 c =
     let w = c.requires.charted in
-    subst (λ (k : ℕ). RoundFits makes₂ k c.round.new.sums) w.size
-    (fits-second w.graph c.args.codes.now w.codes c.tally.new.sums (counted (goal.at.round-requires-2 c).After-tally) c.round.new.sums
-    (rows makes₁ c.args.n (length w.graph) c.tally.new.sums c.round.new.sums w.size c.round.ensures))
+    subst (λ (k : ℕ). RoundFits (makes Second) k c.run.new.sums) w.size
+    (fits-second w.graph c.args.codes.now w.codes c.tally.new.sums (counted (goal.at.run-requires-2 c).After-tally) c.run.new.sums
+    (rows (makes First) c.args.n (length w.graph) c.tally.new.sums c.run.new.sums w.size c.run.ensures))
 
 pub returns : goal.returns
 returns c =
     λ g d e.
-    weighed g c.args.codes.now d c.tally.new.sums (counted (goal.at.returns c).After-tally) c.round.new.sums
-    (rows makes₁ c.args.n (length g) c.tally.new.sums c.round.new.sums e c.round.ensures) c.round-2.new.sums
-    (rows makes₂ c.args.n (length g) c.round.new.sums c.round-2.new.sums e c.round-2.ensures)
+    weighed g c.args.codes.now d c.tally.new.sums (counted (goal.at.returns c).After-tally) c.run.new.sums
+    (rows (makes First) c.args.n (length g) c.tally.new.sums c.run.new.sums e c.run.ensures) c.run-2.new.sums
+    (rows (makes Second) c.args.n (length g) c.run.new.sums c.run-2.new.sums e c.run-2.ensures)

@@ -2,22 +2,25 @@
 use mathlib.Core.Path.{◌≡◌, ap}
 use Prim.Native.Nat.{ℕ, ◌+◌, ◌-◌, ◌*◌, ◌/◌, ◌%◌}
 use native.Mathlib.Omega.{arith}
-use Rattle.path.proofs.Tails.{tail-room, tail-fits, tail_more, tail-ends, tail-here}
+use Rattle.path.proofs.Tails.{tail-room, tail-last, tail-fits, tail_more, tail-ends}
 use Rattle.path.proofs.number.put_digits.Goals as goal
 
-pub overflow_sub-i : goal.overflow_sub-i
-overflow_sub-i c = omega (arith, tail-room c.args.buf.now c.args.at c.args.n c.loop-m.buf c.loop-m.m c.loop-m.i c.loop-m.invariant (omega arith))
-
 pub bounds-buf-i : goal.bounds-buf-i
-bounds-buf-i c = omega (arith, tail-room c.args.buf.now c.args.at c.args.n c.loop-m.buf c.loop-m.m c.loop-m.i c.loop-m.invariant (omega arith), tail-fits c.args.buf.now c.args.at c.args.n c.loop-m.buf c.loop-m.m c.loop-m.i c.loop-m.invariant (omega arith))
+bounds-buf-i c = omega (arith, tail-fits c.loop-i.invariant (omega arith))
 
-pub loop-m-preserved : goal.loop-m-preserved
-loop-m-preserved c =
-    let d : c.loop-m.m - 10 * (c.loop-m.m / 10) ≡ c.loop-m.m % 10 = omega arith in
-    rw d (tail_more c.args.buf.now c.args.at c.args.n c.loop-m.buf c.loop-m.m c.loop-m.i c.loop-m.invariant (omega arith))
+pub loop-i-preserved : goal.loop-i-preserved
+loop-i-preserved c =
+    let d : c.loop-i.m - 10 * (c.loop-i.m / 10) ≡ c.loop-i.m % 10 = omega arith in
+    rw d (tail_more c.loop-i.invariant c.loop-i-test.true)
+
+pub overflow_cast-buf-2 : goal.overflow_cast-buf-2
+overflow_cast-buf-2 c = omega (arith, tail-last c.loop-i.invariant c.loop-i-test.false)
+
+pub overflow_add-buf-2 : goal.overflow_add-buf-2
+overflow_add-buf-2 c = omega (arith, tail-last c.loop-i.invariant c.loop-i-test.false)
 
 pub bounds-buf-at : goal.bounds-buf-at
-bounds-buf-at c = omega (arith, tail-fits c.args.buf.now c.args.at c.args.n c.loop-m.buf c.loop-m.m c.loop-m.i c.loop-m.invariant (omega arith), tail-here c.args.buf.now c.args.at c.args.n c.loop-m.buf c.loop-m.m c.loop-m.i c.loop-m.invariant (omega arith))
+bounds-buf-at c = omega (arith, tail-room c.loop-i.invariant, tail-fits c.loop-i.invariant (omega arith))
 
 pub returns : goal.returns
-returns c = record { bytes = tail-ends c.args.buf.now c.args.at c.args.n c.loop-m.buf c.loop-m.m c.loop-m.i c.loop-m.invariant (omega arith); after = ap (λ (k : ℕ). c.args.at + k) c.digits_len.ensures }
+returns c = record { bytes = tail-ends c.loop-i.invariant c.loop-i-test.false; after = ap (λ (k : ℕ). c.args.at + k) c.digits_len.ensures }

@@ -2,8 +2,5 @@
 use Rattle.path.proofs.Tails.{Tail}
 use Rattle.path.proofs.number.put_digits.Given as goal
 
-abbrev pub invariant-loop-m : goal.invariant-loop-m
-invariant-loop-m l = Tail l.initial.buf l.at l.n l.buf l.m l.i
-
-abbrev pub decreases-loop-m : goal.decreases-loop-m
-decreases-loop-m l = l.m
+abbrev pub invariant-loop-i : goal.invariant-loop-i
+invariant-loop-i l = Tail l.initial.buf l.at l.n l.buf l.m l.i

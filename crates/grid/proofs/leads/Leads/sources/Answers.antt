@@ -9,7 +9,7 @@ use Rattle.grid.proofs.leads.Leads.sources.Goals.{After-self}
 
 -- node p is one of the nodes held, of which there are at most 48
 node : (c : After-self) → c.args.p < c.self.inside.nodes
-node c = let i = c.self.inside in omega (arith, c.requires, ap length c.self.view_is, leads-long i.nodes i.to i.bounds)
+node c = let i = c.self.inside in omega (arith, c.requires, ap length c.self.view_is, leads-long i.nodes i.to.items i.bounds)
 
 below : (c : After-self) → c.args.p < 48
 below c = omega (arith, node c, c.self.invariant.nodes)
@@ -32,9 +32,9 @@ bounds-bounds-p-2 c = omega (arith, below (goal.at.bounds-bounds-p-2 c).After-se
 pub overflow_sub-result : goal.overflow_sub-result
 overflow_sub-result c =
     let i = c.self.inside in
-    led-sources i.nodes i.to i.bounds c.self.invariant c.args.p (node (goal.at.overflow_sub-result c).After-self)
+    led-sources i.nodes i.to.items i.bounds c.self.invariant c.args.p (node (goal.at.overflow_sub-result c).After-self)
 
 pub returns : goal.returns
 returns c =
     let i = c.self.inside in
-    sym (sources-long i.nodes i.to i.bounds c.self.invariant c.args.p (node (goal.at.returns c).After-self) c.self.told.0) ∙ ap (λ g. length (incidents_at g c.args.p).sources) c.self.view_is
+    sym (sources-long i.nodes i.to.items i.bounds c.self.invariant c.args.p (node (goal.at.returns c).After-self)) ∙ ap (λ g. length (incidents_at g c.args.p).sources) c.self.view_is

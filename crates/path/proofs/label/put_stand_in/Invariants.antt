@@ -1,9 +1,0 @@
--- `label::put_stand_in` meets its contract: after i turns the first i bytes of the text are put. Assumes nothing.
-use mathlib.Core.Path.{◌≡◌}
-use lib.ListN.{take}
-use Rattle.path.specs.Writer.{put}
-use Rattle.path.specs.Label.{stand_in}
-use Rattle.path.proofs.label.put_stand_in.Given as goal
-
-abbrev pub invariant-loop-i : goal.invariant-loop-i
-invariant-loop-i l = l.table ≡ put l.initial.table l.s.start (take l.i (stand_in l.j))
