@@ -26,9 +26,8 @@ struct Boards;
 
 impl Program for Boards {
     fn print<W: Write>(out: &mut W, line: &[u8]) -> io::Result<()> {
-        let mut bytes = [0u8; 65536];
-        let n = lines::decode(line, &mut bytes);
-        match chart::read(&bytes[..n], Setting::Strict) {
+        let mut room = [0u8; 65536];
+        match chart::read(lines::chart_of(line, &mut room), Setting::Strict) {
             Ok(board) => print_board(out, &board)?,
             Err(why) => writeln!(out, "{}", why.numbers())?,
         }

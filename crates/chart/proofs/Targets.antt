@@ -2,46 +2,41 @@
 -- Assumes nothing.
 use Prim.Native.Nat.{ℕ, suc, ◌+◌, ◌-◌, ◌≤◌, ◌<◌}
 use native.Mathlib.Numerals.{add-one}
-use mathlib.Core.Path.{◌≡◌, refl, sym, ◌∙◌}
-use mathlib.Core.Bool.{Bool, true, false, cond}
+use mathlib.Core.Logic.{◌⊎◌, inl, inr}
+use mathlib.Core.Path.{◌≡◌, refl, sym, ap, ◌∙◌}
+use mathlib.Core.Bool.{Bool, true, false, cond, ◌&&◌}
 use mathlib.Core.List.{List, [], ◌∷◌, ◌++◌}
-use lib.Dec.{ltb}
-use lib.ListN.{length, get_or, drop}
-use Rattle.std.proofs.Math.Seq.{drop-cons}
-use Rattle.std.proofs.lemmas.List.{drop_all}
-use borrow.Author.Tests.{lt-ltb, le-ltb, eq-eqb, ne_eqb}
-use Rattle.std.specs.Prelude.{Option, Some, None, is_some}
+use lib.Dec.{eqb, leb, ltb}
+use denote.Ref.{Bor}
+use borrow.Author.Tests.{lt-ltb, le-ltb, lt-leb, le-leb}
+use Rattle.std.specs.Prelude.{Option, Some, None, is_some, IsSomeAnd, MatchOption}
+use Rattle.std.specs.List.{find}
+use Rattle.std.specs.Option.{option_map}
 use Rattle.std.proofs.lemmas.Bool.{false≢true}
 use Rattle.chart.specs.declared.Item.{Item}
 use Rattle.chart.specs.declared.Line.{Line}
 use Rattle.chart.specs.Chart.{targets, targets_of, first_outside}
-use Rattle.chart.specs.Tables.{no_item}
-use Rattle.chart.specs.code.Filled.{owned, node_of, board_from}
-use Rattle.laws.specs.Lists.{tabulate}
+use Rattle.chart.specs.code.Filled.{end_of, owned, node_of, board_from}
+use Rattle.laws.specs.Lists.{tabulate, keep}
 use Rattle.laws.proofs.Lists.{one_more}
+use Rattle.laws.proofs.Tests.{less?}
 
--- what is found among the records of q from k on
-abbrev pub looked : List Item → ℕ → ℕ → ℕ → Option ℕ
-looked xs q n k = first_outside (targets (owned q (drop k xs))) n
+-- the first of the records of q whose target isn't below n
+pub found-outside : (q n : ℕ) (xs : List Item) → option_map (λ (e : Item). e.to) (find (λ e. eqb e.owner q && leb n e.to) xs) ≡ first_outside (targets (owned q xs)) n
+found-outside q n [] = refl
+found-outside q n (x ∷ xs) = go (eqb x.owner q) (less? x.to n) (found-outside q n xs)
+  where
+    go : (b : Bool) → (x.to < n) ⊎ (n ≤ x.to) → option_map (λ (e : Item). e.to) (find (λ e. eqb e.owner q && leb n e.to) xs) ≡ first_outside (targets (owned q xs)) n
+        → option_map (λ (e : Item). e.to) (cond (b && leb n x.to) (Some x) (find (λ e. eqb e.owner q && leb n e.to) xs)) ≡ first_outside (targets (keep b (end_of x) (owned q xs))) n
+    go false t i = i
+    go true (inl h) i = rw (lt-leb n x.to h, lt-ltb x.to n h, i)
+    go true (inr h) i = rw (le-leb n x.to h, le-ltb x.to n h)
 
-module _ (xs : List Item) (q n k : ℕ) (h : k < length xs) where
-  abbrev it : Item
-  it = get_or xs k no_item
-
-  rest : drop k xs ≡ it ∷ drop (k + 1) xs
-  rest = drop-cons xs k no_item h ∙ rw (add-one k)
-
-  pub looked-other : (it.owner ≡ q → ⊥) → looked xs q n k ≡ looked xs q n (k + 1)
-  looked-other o = rw (rest, ne_eqb it.owner q o)
-
-  pub looked-below : it.owner ≡ q → it.to < n → looked xs q n k ≡ looked xs q n (k + 1)
-  looked-below o l = rw (rest, eq-eqb it.owner q o, lt-ltb it.to n l)
-
-  pub looked-found : it.owner ≡ q → n ≤ it.to → looked xs q n k ≡ Some it.to
-  looked-found o l = rw (rest, eq-eqb it.owner q o, le-ltb it.to n l)
-
-pub looked-end : (xs : List Item) (q n k : ℕ) → length xs ≤ k → looked xs q n k ≡ None
-looked-end xs q n k h = rw (drop_all k xs h)
+-- what `find` found, mapped
+pub mapped-found : (r : Option (Bor Item)) (o : Option ℕ) (P : Bor Item → ℕ → Type 0) → MatchOption r (o ≡ None) (λ x. IsSomeAnd o (P x)) → ((x : Bor Item) (t : ℕ) → P x t → t ≡ x.now.to) → o ≡ option_map (λ (e : Item). e.to) (option_map (λ (x : Bor Item). x.now) r)
+mapped-found None o P m k = m
+mapped-found (Some x) None P m k = absurd m
+mapped-found (Some x) (Some t) P m k = ap Some (k x t m)
 
 -- the first of two lists, or else of the second
 abbrev pub or_else : Option ℕ → Option ℕ → Option ℕ
@@ -59,6 +54,10 @@ or_second (Some t) u e = absurd (false≢true (sym e))
 choose : (b : Bool) (t : ℕ) (o u : Option ℕ) → cond b (or_else o u) (Some t) ≡ or_else (cond b o (Some t)) u
 choose true t o u = refl
 choose false t o u = refl
+
+pub or-else-is : (o r u : Option ℕ) (P : Type 0) → MatchOption o P (λ x. r ≡ Some x) → (P → r ≡ u) → r ≡ or_else o u
+or-else-is None r u P m k = k m
+or-else-is (Some t) r u P m k = m
 
 pub first-append : (xs ys : List ℕ) (n : ℕ) → first_outside (xs ++ ys) n ≡ or_else (first_outside xs n) (first_outside ys n)
 first-append [] ys n = refl

@@ -2,7 +2,7 @@
 // a node's list is its records in table order.
 #![tactic(auto)]
 
-ghost use Rattle.std.specs.Prelude.{◌≡◌, ◌+◌, ◌≤◌};
+ghost use Rattle.std.specs.Prelude.{◌≡◌};
 ghost use Rattle.chart.specs.Chart.{under_two};
 ghost use Rattle.chart.specs.Read.{IsRead};
 ghost use Rattle.chart.specs.code.Filled.{empty_board};
@@ -83,12 +83,11 @@ fn under_two(len: usize) -> Result<Board, Refusal>
     Ok(Board::empty(0))
 }
 
-// Refusals 11 and 12.
+// Refusals 11 and 12. (The sum saturates: it needs no bound on the counts.)
 fn judged(board: &Board, setting: Setting) -> Result<(), Refusal>
-    requires { board.now.sources.count + board.now.sinks.count ≤ 65535 }
     ensures { result ≡ judged_of setting board.now }
 {
-    if board.sources.count + board.sinks.count > 64 {
+    if board.sources.count.saturating_add(board.sinks.count) > 64 {
         return Err(Refusal::ManyEnds);
     }
     match outside_in(board, setting) {

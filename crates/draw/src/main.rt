@@ -12,9 +12,8 @@ ghost use Rattle.path.specs.Label.{stand_ins};
 ghost use Rattle.path.specs.Promises.{IsWritten};
 
 use chart::Setting;
-use grid::{BoxRecord, NO_OWNER, SheetRecord};
+use grid::{BoxRecord, LabelPlace, NO_OWNER, SheetRecord};
 use listings::LABELS;
-use path::PlacedLabel;
 use std::io;
 use std::io::{BufWriter, Write};
 
@@ -54,10 +53,10 @@ fn put_head<W: Write>(out: &mut W, width: u32, height: u32) -> io::Result<()> {
 }
 
 // The colour of a box: of a given node's, one of eight that colour-blind readers tell apart (Okabe and Ito's); grey where it leads to nothing.
-fn put_colour<W: Write>(out: &mut W, owner: u8) -> io::Result<()> {
-    if owner == NO_OWNER {
+fn put_colour<W: Write>(out: &mut W, owner: Option<u8>) -> io::Result<()> {
+    let Some(owner) = owner else {
         return put(out, b"#999999");
-    }
+    };
     match owner % 8 {
         0 => put(out, b"#0072b2"),
         1 => put(out, b"#d55e00"),
@@ -71,8 +70,8 @@ fn put_colour<W: Write>(out: &mut W, owner: u8) -> io::Result<()> {
 }
 
 // The tint of a box; none where it leads to nothing.
-fn put_tint<W: Write>(out: &mut W, owner: u8) -> io::Result<()> {
-    if owner == NO_OWNER {
+fn put_tint<W: Write>(out: &mut W, owner: Option<u8>) -> io::Result<()> {
+    if owner.is_none() {
         return put(out, b"none");
     }
     put_colour(out, owner)
@@ -80,10 +79,10 @@ fn put_tint<W: Write>(out: &mut W, owner: u8) -> io::Result<()> {
 
 // How its border is dashed. With the colour it tells any two of 32 nodes apart, and in print without colour any two of the first eight: of these the
 // dark colours, 0 to 3, are each dashed otherwise, and so are the light ones.
-fn put_dashes<W: Write>(out: &mut W, owner: u8) -> io::Result<()> {
-    if owner == NO_OWNER {
+fn put_dashes<W: Write>(out: &mut W, owner: Option<u8>) -> io::Result<()> {
+    let Some(owner) = owner else {
         return Ok(());
-    }
+    };
     match (owner % 8 + owner / 8) % 4 {
         0 => Ok(()),
         1 => put(out, b" stroke-dasharray=\"192 96\""),
@@ -94,16 +93,17 @@ fn put_dashes<W: Write>(out: &mut W, owner: u8) -> io::Result<()> {
 
 // A box in its owner's colour, over the sheet's path: its border, and a tint inside.
 fn put_box<W: Write>(out: &mut W, b: &BoxRecord) -> io::Result<()> {
+    let owner = (b.owner != NO_OWNER).then_some(b.owner);
     write!(
         out,
         "<rect x=\"{}\" y=\"{}\" width=\"{}\" height=\"{}\" fill=\"",
         b.x, b.y, b.width, b.height
     )?;
-    put_tint(out, b.owner)?;
+    put_tint(out, owner)?;
     put(out, b"\" stroke=\"")?;
-    put_colour(out, b.owner)?;
+    put_colour(out, owner)?;
     put(out, b"\"")?;
-    put_dashes(out, b.owner)?;
+    put_dashes(out, owner)?;
     put(out, b"/>\n")
 }
 
@@ -143,7 +143,7 @@ fn put_path<W: Write>(out: &mut W, s: &SheetRecord) -> io::Result<()>
 }
 
 // A label, unless its text is empty: its place is the left end of its baseline, and it is as wide as the layout has it, whatever the font.
-fn put_label<W: Write>(out: &mut W, l: &PlacedLabel, text: &[u8]) -> io::Result<()> {
+fn put_label<W: Write>(out: &mut W, l: &LabelPlace, text: &[u8]) -> io::Result<()> {
     if text.is_empty() {
         return Ok(());
     }

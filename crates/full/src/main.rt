@@ -76,9 +76,9 @@ struct Full;
 
 impl Program for Full {
     fn print<W: Write>(out: &mut W, line: &[u8]) -> io::Result<()> {
-        let mut chart = [0u8; 8192];
-        let n = lines::decode(lines::digits(line), &mut chart);
-        print_chart(out, &chart[..n], lines::setting_of(line))?;
+        let mut room = [0u8; 8192];
+        let chart = lines::chart_of(lines::digits(line), &mut room);
+        print_chart(out, chart, lines::setting_of(line))?;
         writeln!(out)
     }
 }

@@ -6,9 +6,8 @@ use native.Mathlib.Nat.{zero-add}
 use mathlib.Core.Path.{◌≡◌, refl, ap, sym, ◌∙◌, subst}
 use mathlib.Core.Bool.{Bool, true, false}
 use mathlib.Core.List.{List, [], ◌∷◌, ◌++◌, map, append-nil}
-use lib.Dec.{eqb, leb}
+use lib.Dec.{eqb}
 use lib.ListN.{length, get_or, replicate, get_or-replicate, length-map}
-use borrow.Author.Tests.{le-leb, lt-leb}
 use Rattle.laws.specs.Lists.{All, padded}
 use Rattle.laws.proofs.Lists.{all_made, get_d_tabulate, tabulate-same, map-tabulate}
 use Rattle.chart.specs.declared.Item.{Item as GivenItem}
@@ -19,7 +18,7 @@ use Rattle.std.specs.Prelude.{Result, Ok, Err}
 use Rattle.refusals.specs.declared.Refusal.{Refusal}
 use Rattle.refusals.specs.declared.Refusal.TheVariants.{ManyBoxes}
 use Rattle.chart.specs.declared.Setting.{Setting}
-use Rattle.chart.specs.Chart.{Board, ends_of as end_count, ready as accepted, chart}
+use Rattle.chart.specs.Chart.{Board, ends_of as end_count, ready as accepted, refusal as refused, chart}
 use Rattle.chart.specs.Chart.{Node as GivenNode}
 use Rattle.chart.specs.Tables.{no_line, lines_from}
 use Rattle.chart.specs.code.Filled.{lines_of as texts_of, owned_lines, board_from, board_of}
@@ -37,15 +36,14 @@ use Rattle.graph.specs.declared.Tables.{Tables}
 use Rattle.graph.specs.Graph.{Line, given, Node, Graph, unmarked, given_node, given_graph}
 use Rattle.graph.specs.Completion.{complete}
 use Rattle.graph.specs.Joining.{leads, leads_of, joined, uncut}
-use Rattle.graph.specs.Cutting.{Walk, cutting}
+use Rattle.graph.specs.Cutting.{cutting}
 use Rattle.graph.specs.Laws.{ends, Aimed as GraphAimed}
-use Rattle.graph.specs.Graphed.{ready, refusal}
+use Rattle.graph.specs.Graphed.{Dag, ready, refusal}
 use Rattle.graph.specs.code.Tables.{owned, items_of, unmarked_item, node_of, name_line, lines_at, lines_of, graph_from, graph_of, Below, Owned, Roomy, Fits, Joined, Completed}
-use Rattle.graph.specs.code.Explore.{cut_if, Holds}
+use Rattle.graph.specs.code.Explore.{Holds}
 use Rattle.graph.specs.Outcome.{texts_from, names_of, sources_from, sinks_from, table_of, tables_of}
-use Rattle.graph.specs.code.Graphs.{stage, staged, IsAnswer, in_order, ordered_of, Held, Begun}
+use Rattle.graph.specs.code.Graphs.{IsAnswer, in_order, ordered_of, Held, Begun, IsJoined}
 use Rattle.graph.proofs.Cuts.{length-graph}
-use Rattle.graph.proofs.AimLaws.{cutting-count}
 use Rattle.graph.proofs.Lists.{take_le}
 use Rattle.graph.proofs.Boxes.{sources-held, sinks-held, sources-from, sinks-from}
 use Rattle.graph.proofs.Uncut.{whole_long, same-leads, uncut-long, uncut-aims, uncut-sources, uncut-sinks, offs, uncut-lines, offs-textless, cut_lined, cut-rest, rest-textless}
@@ -178,15 +176,9 @@ answered t o long lines r e =
         tables_of (record { graph = graph_of t; cuts = t.cuts }) ≡ r
     e-of t r e size names lines xs ys = cc (ap table_of xs, ap table_of ys)
 
--- cutting takes no node away
-no-fewer : (cut : Bool) (g : Graph) → length g ≤ length (cut_if cut g).graph
-no-fewer true g = omega (arith, cutting-count g)
-no-fewer false g = omega arith
-
--- nor a line
-cut-kept : (cut : Bool) (ps : Board) → Kept ps (cut_if cut (uncut ps)).graph
-cut-kept true ps = cut-lines ps
-cut-kept false ps = uncut-kept ps
+-- tables that hold a graph of the board b, put in order, are its answer
+pub held-answers : (b : BoardTables) → Held b → (d : Dag) → Kept (board_of b) d.graph → (t : Tables) → Holds b.lines d t → length t.names ≡ 48 → (r : Tables) → r ≡ ordered_of t → IsAnswer (ready d) (Ok r)
+held-answers b h d k t o long r e = rw (← o.graph, ← o.cuts) (answered t o.sound long (o.lines ∙ lines_are b h d.graph k ∙ ap held_lines (sym o.graph)) r e)
 
 module _ (b : BoardTables) (h : Held b) (t₀ t₁ : Tables) (begin : Begun b t₀) (done : Completed t₀ t₁) where
   abbrev board : Board
@@ -202,8 +194,8 @@ module _ (b : BoardTables) (h : Held b) (t₀ t₁ : Tables) (begin : Begun b t�
   leads-is = ap (leads t₁.n) whole-graph ∙ ap (λ (k : ℕ). leads k (complete (given_graph board))) (n-is ∙ sym (whole_long board)) ∙ same-leads board
 
   -- the boxes of the leads alone are too many
-  pub drawn-many : (cut : Bool) → 48 < t₁.n + leads t₁.n (graph_of t₁) → IsAnswer (stage cut (uncut board)) (Err ManyBoxes)
-  drawn-many cut m = rw (lt-leb (length (cut_if cut (uncut board)).graph) 48 (omega (arith, m, n-is, leads-is, uncut-long board, no-fewer cut (uncut board)))) (none_answers ManyBoxes)
+  pub joined-many : 48 < t₁.n + leads t₁.n (graph_of t₁) → IsJoined b (Err ManyBoxes)
+  joined-many m = (refl, omega (arith, m, n-is, leads-is, uncut-long board))
 
   joined_is : joined t₁.n (graph_of t₁) ≡ uncut board
   unfolding uncut
@@ -212,8 +204,8 @@ module _ (b : BoardTables) (h : Held b) (t₀ t₁ : Tables) (begin : Begun b t�
   few : end_count board ≤ 64
   few = (accepts h.setting h.chart_bytes board h.read).ends
 
-  pub drawn-fits : t₁.n + leads t₁.n (graph_of t₁) ≤ 48 → Fits (joined t₁.n (graph_of t₁))
-  drawn-fits m =
+  pub joined-fits : t₁.n + leads t₁.n (graph_of t₁) ≤ 48 → Fits (joined t₁.n (graph_of t₁))
+  joined-fits m =
       rw joined_is
       (record {
         nodes = omega (arith, m, n-is, leads-is, uncut-long board);
@@ -229,8 +221,8 @@ module _ (b : BoardTables) (h : Held b) (t₀ t₁ : Tables) (begin : Begun b t�
   fitted = j.graph ∙ joined_is b h t₀ t₁ begin done
 
   -- each target is a node, and there is room for the cuts
-  pub drawn_roomy : Roomy t₂
-  drawn_roomy =
+  joined_roomy : Roomy t₂
+  joined_roomy =
       let o : Owned t₂ = j.standing.owned in
       let xs : List Item = items_of t₂.sources in
       let ys : List Item = items_of t₂.sinks in
@@ -256,20 +248,14 @@ module _ (b : BoardTables) (h : Held b) (t₀ t₁ : Tables) (begin : Begun b t�
         blank = j.standing.blank;
       }
 
-  -- cut or not: too many boxes, or the answer
-  pub stage-refused : (cut : Bool) → 48 < length (cut_if cut (graph_of t₂)).graph → IsAnswer (stage cut (uncut ps₂)) (Err ManyBoxes)
-  stage-refused cut o = rw (lt-leb (length (cut_if cut (uncut ps₂)).graph) 48 (rw fitted at o)) (none_answers ManyBoxes)
-
-  pub stage-ready : (cut : Bool) (t : Tables) → Holds t₂ t (cut_if cut (graph_of t₂)) → (r : Tables) → r ≡ ordered_of t →
-      IsAnswer (stage cut (uncut ps₂)) (Ok r)
-  stage-ready cut t o r e =
-      let w : Walk = cut_if cut (uncut ps₂) in
-      let g : graph_of t ≡ w.graph = o.graph ∙ ap (λ (u : Graph). (cut_if cut u).graph) fitted in
-      let k : t.cuts ≡ w.cuts = o.cuts ∙ ap (λ (u : Graph). (cut_if cut u).cuts) fitted in
-      let size : length (graph_of t) ≡ t.n = length-graph t.n (lines_of t) (items_of t.sources) (items_of t.sinks) in
-      let fits : leb (length (graph_of t)) 48 ≡ true = le-leb (length (graph_of t)) 48 (omega (arith, size, o.sound.linked.nodes)) in
-      let lines : t.lines ≡ held_lines (graph_of t) = o.lines ∙ j.lines ∙ done.same.lines ∙ begin.lines ∙ lines_are b h w.graph (cut-kept cut ps₂) ∙ ap held_lines (sym g) in
-      rw (← g, ← k, fits) (answered t o.sound o.named lines r e)
+  pub joined-holds : IsJoined b (Ok t₂)
+  joined-holds =
+      record {
+        sound = joined_roomy;
+        graph = fitted;
+        cuts = j.cuts ∙ done.same.cuts ∙ begin.cuts;
+        lines = j.lines ∙ done.same.lines ∙ begin.lines;
+      }
 
 -- ---- the answer of `chart::read`
 module _ (w : Setting) (s : List ℕ) (o : Result BoardTables Refusal) (promised : IsRead w s o) where
@@ -290,8 +276,5 @@ module _ (w : Setting) (s : List ℕ) (o : Result BoardTables Refusal) (promised
           whole = let z : Ok b ≡ read_of (accepted (board_of b)) = sym e ∙ is.whole ∙ ap read_of read-ready in cc;
         }
 
-    pub stage-read : (cut : Bool) → (r : Result Tables Refusal) → IsAnswer (stage cut (uncut (board_of b))) r → IsAnswer (staged cut (chart w s)) r
-    stage-read cut r a = rw read-ready a
-
-  pub stage_not : (cut : Bool) (why : Refusal) → o ≡ Err why → IsAnswer (staged cut (chart w s)) (Err why)
-  stage_not cut why e = rw (sym is.reads ∙ ap reading_of e) (none_answers why)
+  pub read-refused : (why : Refusal) → o ≡ Err why → chart w s ≡ refused why
+  read-refused why e = sym is.reads ∙ ap reading_of e

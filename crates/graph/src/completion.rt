@@ -71,7 +71,7 @@ fn gain_sink(t: &mut Tables, k: usize)
         return;
     }
     let number = count_owned(t.sinks.as_slice(), e.to) as u8;
-    t.sources.items[k].mark = number + 1;
+    t.sources.items[k].mark = Item::marked(number);
     t.sinks.push(sink_of(e.owner, e.to));
 }
 

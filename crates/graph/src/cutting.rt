@@ -3,7 +3,7 @@ ghost use Rattle.std.specs.Prelude.{◌≡◌, map, ◌++◌, ◌+◌, ◌<◌, 
 ghost use Rattle.laws.specs.Lists.{one};
 ghost use Rattle.graph.specs.code.Tables.{items_of, owned, point_item, turn_item, source_of, sink_of, CutTo, Roomy, Sunk};
 ghost use Rattle.graph.specs.Outcome.{no_item};
-ghost use Rattle.graph.specs.code.Explore.{CutIf};
+ghost use Rattle.graph.specs.code.Explore.{CyclesCut};
 
 use crate::reach::{Frame, Seen, mark_roots};
 use crate::records::{add_box, sink_of, source_of};
@@ -30,7 +30,7 @@ fn turn(sources: &mut [Item], q: u8, c: u8, to: u8)
     for e in sources {
         if e.owner == q && e.to == c {
             e.to = to;
-            e.mark = 1;
+            e.mark = Item::marked(0);
         }
     }
 }
@@ -54,16 +54,13 @@ fn cut_sink(t: &mut Tables, c: u8, s: u8, k: usize)
     t.cuts += 1;
 }
 
-// Every cycle that no root reaches is cut, if asked, unless that makes more than 48 nodes.
+// Every cycle that no root reaches is cut, unless that makes more than 48 nodes.
 // One step: the last node of the path looks at its next sink, or leaves the path.
-pub fn cut_cycles(t: &mut Tables, cut: bool) -> Result<(), Refusal>
+pub fn cut_cycles(t: &mut Tables) -> Result<(), Refusal>
     requires roomy { Roomy t.old }
     requires cuts_value { t.old.cuts ≡ 0 }
-    ensures { CutIf cut t.old result t.new }
+    ensures { CyclesCut t.old result t.new }
 {
-    if !cut {
-        return Ok(());
-    }
     let mut seen = mark_roots(t);
     for p in 0..t.n {
         if seen[p] != Seen::Unseen {

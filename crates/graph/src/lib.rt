@@ -2,13 +2,12 @@
 // A node's list is its records in table order.
 #![tactic(auto)]
 
-ghost use Rattle.std.specs.Prelude.{◌≡◌};
-ghost use Rattle.chart.specs.Chart.{chart as chart_of};
-ghost use Rattle.chart.specs.code.Filled.{board_of};
-ghost use Rattle.graph.specs.Joining.{uncut};
+ghost use Rattle.std.specs.Prelude.{◌≡◌, ◌+◌, ◌<◌, MatchOption};
+ghost use Rattle.std.proofs.Math.Option.{none, some};
 ghost use Rattle.graph.specs.Outcome.{IsGraph};
 ghost use Rattle.graph.specs.Completed.{IsCompleted};
-ghost use Rattle.graph.specs.code.Graphs.{stage, staged as staged_of, Held, IsAnswer};
+ghost use Rattle.graph.specs.code.Tables.{mark_of};
+ghost use Rattle.graph.specs.code.Graphs.{Held, IsJoined};
 ghost use Rattle.graph.specs.Ends.{ends_in};
 
 use chart::{Board, Lines, Setting};
@@ -21,8 +20,8 @@ mod joining;
 mod reach;
 mod records;
 
-// A source or a sink: its text's place in the chart, its node, the node at the other end, its mark plus 1 (0 for none: an Option would make 8 bytes of 6), and how
-// many characters its text has. (In this order it takes 6 bytes.)
+// A source or a sink: its text's place in the chart, its node, the node at the other end, its mark (`number` says which sink it names), and how many characters its
+// text has. (In this order it takes 6 bytes.)
 #[derive(Clone, Copy, Default)]
 pub struct Item {
     pub at: u16,
@@ -30,6 +29,24 @@ pub struct Item {
     pub to: u8,
     pub mark: u8,
     pub len: u8,
+}
+
+// A mark is held as its number plus 1, and none as 0: an Option would make 8 bytes of 6.
+impl Item {
+    // The number of the sink that it marks, if any.
+    pub fn number(&self) -> Option<u8>
+        ensures { MatchOption result (mark_of self.now.mark ≡ none) (λ i. mark_of self.now.mark ≡ some i) }
+    {
+        self.mark.checked_sub(1)
+    }
+
+    // The mark that names sink i.
+    fn marked(i: u8) -> u8
+        requires { i < 255 }
+        ensures { result ≡ i + 1 }
+    {
+        i + 1
+    }
 }
 
 // The sources, or the sinks, of all nodes.
@@ -57,11 +74,11 @@ pub struct Tables {
     pub sinks: Items,
 }
 
-// An accepted chart's board: completed, joined, and cut if asked, or refusal 13.
+// An accepted chart's board, completed and joined, or refusal 13. (Its frame is gone before the cutting and the sorting are called, for the unit's stack.)
 #[inline(never)]
-fn drawn(board: &Board, cut: bool) -> Result<Tables, Refusal>
+fn joined_of(board: &Board) -> Result<Tables, Refusal>
     requires { Held board.now }
-    ensures { IsAnswer (stage cut (uncut (board_of board.now))) result }
+    ensures { IsJoined board.now result }
 {
     let mut whole = records::begin(board);
     completion::complete(&mut whole);
@@ -70,17 +87,7 @@ fn drawn(board: &Board, cut: bool) -> Result<Tables, Refusal>
         return Err(Refusal::ManyBoxes);
     }
     joining::join(&mut whole, leads);
-    cutting::cut_cycles(&mut whole, cut)?;
-    records::finished(&mut whole);
     Ok(whole)
-}
-
-// The chart read, completed, joined, and cut if asked. (Each stage has a frame of its own, which is gone before the next is called, for the unit's stack.)
-fn staged(chart: &[u8], setting: Setting, cut: bool) -> Result<Tables, Refusal>
-    ensures { IsAnswer (staged_of cut (chart_of setting chart.now)) result }
-{
-    let board = chart::read(chart, setting)?;
-    drawn(&board, cut)
 }
 
 // The graph of a chart in a setting, completed, joined and cut, or the first refusal of 1 to 13.
@@ -88,14 +95,21 @@ fn staged(chart: &[u8], setting: Setting, cut: bool) -> Result<Tables, Refusal>
 pub fn graph(chart: &[u8], setting: Setting) -> Result<Tables, Refusal>
     ensures { IsGraph setting chart.now result }
 {
-    staged(chart, setting, true)
+    let board = chart::read(chart, setting)?;
+    let mut dag = joined_of(&board)?;
+    cutting::cut_cycles(&mut dag)?;
+    records::finished(&mut dag);
+    Ok(dag)
 }
 
 // The graph of a chart in the strict setting, completed and not cut, or the first refusal of 1 to 12.
 pub fn completed(chart: &[u8]) -> Result<Tables, Refusal>
     ensures { IsCompleted chart.now result }
 {
-    staged(chart, Setting::Strict, false)
+    let board = chart::read(chart, Setting::Strict)?;
+    let mut whole = joined_of(&board)?;
+    records::finished(&mut whole);
+    Ok(whole)
 }
 
 // Whose an end is, and where it leads.

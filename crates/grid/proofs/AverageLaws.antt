@@ -1,21 +1,19 @@
--- What the averaging step needs: what the boxes from k on leave free around a box, and the columns of some nodes, one by one.
+-- What the averaging step needs: what the boxes that are left leave free around a box, and the columns of some nodes, one by one.
 -- Assumes nothing.
 use Prim.Native.Nat.{ℕ, suc, ◌+◌, ◌*◌, ◌≤◌, ◌<◌, min, max}
 use native.Mathlib.Omega.{arith}
-use native.Mathlib.Numerals.{add-one}
 use mathlib.Core.Path.{◌≡◌, refl, ap, sym, ◌∙◌}
 use mathlib.Core.Option as maybe
 use mathlib.Core.Option.{none, some}
 use mathlib.Core.Bool.{Bool, true, false, cond, ◌&&◌}
 use mathlib.Core.List.{List, [], ◌∷◌}
 use lib.Dec.{eqb, ltb}
-use lib.ListN.{length, drop}
-use lib.Seq.{drop-cons}
+use lib.ListN.{length}
 use Rattle.std.specs.Prelude.{Option, Some, None}
 use Rattle.std.specs.Option.{unwrap_or}
 use Rattle.grid.specs.Lists.{largest, total}
 use Rattle.grid.specs.Columns.{at, nearer, right_of, left_end, columns_of}
-use Rattle.grid.specs.code.Arrays.{Inside, held}
+use Rattle.grid.specs.code.Arrays.{Boxes, Inside, held}
 
 -- the nearer of two right neighbours, if there is one
 abbrev pub nearest : maybe.Option ℕ → maybe.Option ℕ → maybe.Option ℕ
@@ -30,43 +28,45 @@ nearest-nearer : (a c : ℕ) (o : maybe.Option ℕ) → nearer true a (nearer tr
 nearest-nearer a c none = refl
 nearest-nearer a c (some b) = ap some (omega arith)
 
--- box k, at row y and column c, before those after it
-module _ (r x : ℕ) (rows cols : List ℕ) (k : ℕ) (hr : k < length rows) (hc : k < length cols) where
-  abbrev y : ℕ
-  y = at rows k
+-- the boxes that are left, and what those before them leave free
+pub record Open (r x : ℕ) (rows cols ys cs : List ℕ) (low : ℕ) (next : Option ℕ) : Type 0 where
+  pub long : length ys ≡ length cs
+  pub column : Inside 144 cs
+  pub left : max low (left_end ys cs r x) ≡ left_end rows cols r x
+  pub right : nearest (held next) (right_of ys cs r x) ≡ right_of rows cols r x
 
-  abbrev c : ℕ
-  c = at cols k
+pub open_first : (n r x : ℕ) (rows cols : List ℕ) → Boxes n rows cols → Open r x rows cols rows cols 0 None
+open_first n r x rows cols b =
+    record {
+      long = b.rows_long ∙ sym b.cols_long;
+      column = record { below = λ k l. b.column k (omega (arith, b.cols_long)) };
+      left = omega arith;
+      right = refl;
+    }
 
-  abbrev R : List ℕ
-  R = drop (k + 1) rows
+-- the next of them
+module _ (r x : ℕ) (rows cols : List ℕ) (y c : ℕ) (ys cs : List ℕ) (low : ℕ) (next : Option ℕ) (o : Open r x rows cols (y ∷ ys) (c ∷ cs) low next) where
+  left_met : (b : Bool) (new : ℕ) → (eqb y r && ltb c x) ≡ b → new ≡ cond b (max low (c + 1)) low → max new (left_end ys cs r x) ≡ left_end rows cols r x
+  left_met true new t e = let f : cond (eqb y r && ltb c x) (c + 1) 0 ≡ c + 1 = ap (λ (b : Bool). cond b (c + 1) 0) t in omega (arith, e, f, o.left)
+  left_met false new t e = let f : cond (eqb y r && ltb c x) (c + 1) 0 ≡ 0 = ap (λ (b : Bool). cond b (c + 1) 0) t in omega (arith, e, f, o.left)
 
-  abbrev C : List ℕ
-  C = drop (k + 1) cols
-
-  pub left_more : left_end (drop k rows) (drop k cols) r x ≡ max (cond (eqb y r && ltb c x) (c + 1) 0) (left_end R C r x)
-  left_more = rw (drop-cons rows k 0 hr, drop-cons cols k 0 hc, add-one k) refl
-
-  pub right_more : right_of (drop k rows) (drop k cols) r x ≡ nearer (eqb y r && ltb x c) c (right_of R C r x)
-  right_more = rw (drop-cons rows k 0 hr, drop-cons cols k 0 hc, add-one k) refl
-
-  -- with it
-  pub left_met : (b : Bool) (low new : ℕ) → (eqb y r && ltb c x) ≡ b → new ≡ cond b (max low (c + 1)) low →
-      max low (left_end (drop k rows) (drop k cols) r x) ≡ left_end rows cols r x → max new (left_end R C r x) ≡ left_end rows cols r x
-  left_met b low new t e i = go b t e ∙ i
+  right_met : (b : Bool) (new : Option ℕ) → (eqb y r && ltb x c) ≡ b → new ≡ cond b (Some (min (unwrap_or next c) c)) next → nearest (held new) (right_of ys cs r x) ≡ right_of rows cols r x
+  right_met b new t e = rw e (go b next) ∙ ap (λ a. nearest (held next) (nearer a c (right_of ys cs r x))) (sym t) ∙ o.right
     where
-      go : (b : Bool) → (eqb y r && ltb c x) ≡ b → new ≡ cond b (max low (c + 1)) low → max new (left_end R C r x) ≡ max low (left_end (drop k rows) (drop k cols) r x)
-      go true t e = let f = rw t at left_more in omega (arith, e, f)
-      go false t e = let f = rw t at left_more in omega (arith, e, f)
+      go : (b : Bool) (next : Option ℕ) → nearest (held (cond b (Some (min (unwrap_or next c) c)) next)) (right_of ys cs r x) ≡ nearest (held next) (nearer b c (right_of ys cs r x))
+      go true None = let f : min c c ≡ c = omega arith in ap (λ (m : ℕ). nearer true m (right_of ys cs r x)) f
+      go true (Some a) = sym (nearest-nearer a c (right_of ys cs r x))
+      go false o = refl
 
-  pub right_met : (b : Bool) (next new : Option ℕ) → (eqb y r && ltb x c) ≡ b → new ≡ cond b (Some (min (unwrap_or next c) c)) next →
-      nearest (held next) (right_of (drop k rows) (drop k cols) r x) ≡ right_of rows cols r x → nearest (held new) (right_of R C r x) ≡ right_of rows cols r x
-  right_met b next new t e i = rw e (go b t next) ∙ i
-    where
-      go : (b : Bool) → (eqb y r && ltb x c) ≡ b → (next : Option ℕ) → nearest (held (cond b (Some (min (unwrap_or next c) c)) next)) (right_of R C r x) ≡ nearest (held next) (right_of (drop k rows) (drop k cols) r x)
-      go true t None = let f : min c c ≡ c = omega arith in ap (λ (m : ℕ). nearer true m (right_of R C r x)) f ∙ sym (rw t at right_more)
-      go true t (Some a) = sym (nearest-nearer a c (right_of R C r x)) ∙ ap (nearer true a) (sym (rw t at right_more))
-      go false t o = ap (nearest (held o)) (sym (rw t at right_more))
+  pub open_more : (a b : Bool) {new : ℕ} {then : Option ℕ} → (eqb y r && ltb c x) ≡ a → (eqb y r && ltb x c) ≡ b → new ≡ cond a (max low (c + 1)) low →
+      then ≡ cond b (Some (min (unwrap_or next c) c)) next → Open r x rows cols ys cs new then
+  open_more a b s t d e =
+      record {
+        long = omega (arith, o.long);
+        column = record { below = λ k l. o.column.below (suc k) (omega arith) };
+        left = left_met a _ s d;
+        right = right_met b _ t e;
+      }
 
 -- ---- the columns of some nodes
 -- they are below b, if all columns are

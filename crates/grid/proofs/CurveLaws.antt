@@ -7,7 +7,7 @@ use mathlib.Core.Option as maybe
 use mathlib.Core.Bool.{Bool, true, false, cond}
 use mathlib.Core.List.{List, [], ◌∷◌, map}
 use lib.Dec.{eqb}
-use Rattle.std.specs.Prelude.{Option, Some, None}
+use Rattle.std.specs.Prelude.{Option, Some, None, MatchOption}
 use Rattle.std.specs.List.{find, slice_get}
 use Rattle.laws.specs.Lists.{one}
 use Rattle.grid.specs.declared.Curve.{Curve}
@@ -37,6 +37,7 @@ module _ (y k : ℕ) (i : Input) where
   numbered-end (e ∷ es) zero = refl
   numbered-end (e ∷ es) (suc m) = numbered-end es m
 
-  pub curve-is : (mark : maybe.Option ℕ) (es : List End) → curve_if (output_for mark (map (output_of y) es) k) i ≡ curve_of (end_for mark k es) y i
-  curve-is none es = first-end es
-  curve-is (some m) es = numbered-end es m
+  pub curve-is : (mark : maybe.Option ℕ) (number : Option ℕ) → MatchOption number (mark ≡ none) (λ m. mark ≡ some m) → (es : List End) →
+      curve_if (output_for mark (map (output_of y) es) k) i ≡ curve_of (end_for number k es) y i
+  curve-is mark None e es = rw e (first-end es)
+  curve-is mark (Some m) e es = rw e (numbered-end es m)

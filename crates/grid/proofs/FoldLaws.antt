@@ -1,29 +1,15 @@
--- What the loops of a fold need: each definition at one box, one row or one pair more.
+-- What the loops of a fold need: each definition at one row or one pair more.
 -- Assumes nothing.
 use Prim.Native.Nat.{ℕ, zero, suc, ◌+◌, ◌*◌, ◌≤◌, ◌<◌}
 use native.Mathlib.Omega.{arith}
-use native.Mathlib.Nat.{le_of_suc-le-suc, not-suc-le-zero}
 use native.Mathlib.Numerals.{add-one}
 use mathlib.Core.Path.{◌≡◌, refl, ap, sym, ◌∙◌}
-use mathlib.Core.Bool.{Bool, ◌&&◌, ◌||◌}
 use mathlib.Core.List.{List, [], ◌∷◌, ◌++◌, map, append_assoc}
-use lib.Dec.{eqb}
 use lib.ListN.{length, set, take, replicate, length-set}
 use lib.Seq.{get_or-take, take-suc-set}
-use Rattle.laws.proofs.Tests.{or_false, or_assoc}
-use Rattle.grid.specs.Columns.{at, taken, extra, new_columns, pairs_from, table, fold_from}
+use Rattle.grid.specs.Columns.{at, extra, new_columns, pairs_from, table, fold_from}
 use Rattle.grid.specs.code.Arrays.{table_to, next_new}
 use Rattle.grid.proofs.ListLaws.{at-largest}
-
--- one box more
-pub taken_more : (rows cols : List ℕ) (k r x : ℕ) → k < length rows → k < length cols →
-    taken (take (suc k) rows) (take (suc k) cols) r x ≡ taken (take k rows) (take k cols) r x || (eqb (at rows k) r && eqb (at cols k) x)
-taken_more [] cols k r x h l = absurd (not-suc-le-zero h)
-taken_more (y ∷ rows) [] k r x h l = absurd (not-suc-le-zero l)
-taken_more (y ∷ rows) (c ∷ cols) zero r x h l = or_false (eqb y r && eqb c x)
-taken_more (y ∷ rows) (c ∷ cols) (suc k) r x h l =
-    ap (λ (b : Bool). (eqb y r && eqb c x) || b) (taken_more rows cols k r x (le_of_suc-le-suc h) (le_of_suc-le-suc l))
-    ∙ or_assoc (eqb y r && eqb c x) (taken (take k rows) (take k cols) r x) (eqb (at rows k) r && eqb (at cols k) x)
 
 -- one pair more
 module _ (more : ℕ → ℕ) where

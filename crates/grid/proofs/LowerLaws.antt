@@ -6,17 +6,18 @@ use native.Mathlib.Numerals.{add-one}
 use mathlib.Core.Path.{◌≡◌, refl, ap, sym, subst, ◌∙◌}
 use mathlib.Core.Option.{none, some}
 use mathlib.Core.Bool.{false}
-use lib.IntN.{ℤ, nat_abs, ◌-ℤ◌}
+use lib.IntN.{ℤ, pos, nat_abs, ◌-ℤ◌}
 use mathlib.Core.List.{List, [], ◌∷◌, ◌++◌, map}
-use lib.ListN.{length, get_or, set, take, drop, replicate, length-map}
-use lib.Seq.{drop-cons}
-use Rattle.std.proofs.lemmas.List.{get_or-map, take-map, map_more, length-take-le}
+use lib.ListN.{length, get_or, set, take, drop, replicate, length-map, length-append, length-replicate}
+use Rattle.std.proofs.lemmas.List.{get_or-map, take-map, ext_get_or}
 use Rattle.std.specs.Int.{int_min}
 use Rattle.std.specs.Prelude.{Option, Some, None}
-use Rattle.std.specs.Option.{is_some, unwrap_or}
+use Rattle.std.specs.Option.{is_some, unwrap_or, option_to_list}
+use Rattle.std.specs.List.{fold, flat_map}
 use Rattle.graph.specs.Shape.{Shape}
-use Rattle.laws.specs.Lists.{padded}
-use Rattle.laws.proofs.Lists.{padded-set, padded-none}
+use denote.Param.Members.{Mut, Called}
+use Rattle.std.specs.Array.{IsMapOf}
+use Rattle.laws.proofs.Lists.{drop-replicate}
 use Rattle.laws.specs.Each.{each}
 use Rattle.laws.proofs.Each.{next}
 use Rattle.grid.specs.Lists.{or_else}
@@ -25,7 +26,7 @@ use Rattle.grid.specs.code.Arrays.{held}
 use Rattle.grid.specs.code.Walk.{raised, raised_row, reached_in, rows_of, Near, AllNear, IsLeast}
 use Rattle.grid.proofs.Arrays.{all-at}
 use Rattle.grid.proofs.HeightLaws.{Within, reached-positive}
-use Rattle.grid.proofs.SignedLaws.{near-raised, smaller, raised_le, difference}
+use Rattle.grid.proofs.SignedLaws.{near-raised, smaller, smaller-near, raised_le, difference}
 use Rattle.grid.proofs.WalkLaws.{rows-fresh, none-everywhere}
 
 -- each row of a walk is near
@@ -53,22 +54,21 @@ least-below m (some a ∷ v) zero r e = let f : a ≡ r = cc in omega arith
 least-below m (none ∷ v) (suc k) r e = least-below m v k r e
 least-below m (some a ∷ v) (suc k) r e = omega (arith, least-below m v k r e)
 
--- row k, before those after it
-module _ (n : ℕ) (zs : List (Option ℤ)) (k : ℕ) (h : k < length zs) (m : ℤ) where
-  next_row : (o : Option ℤ) → get_or zs k None ≡ o → least_row (raised n m) (reached_in n (drop k zs)) ≡ least_row (raised n m) (raised_row n o ∷ reached_in n (drop (k + 1) zs))
-  next_row o e =
-      ap (λ (l : List (Option ℤ)). least_row (raised n m) (reached_in n l)) (drop-cons zs k None h)
-      ∙ ap (λ (x : Option ℤ). least_row (raised n m) (raised_row n x ∷ reached_in n (drop (suc k) zs))) e
-      ∙ ap (λ (i : ℕ). least_row (raised n m) (raised_row n o ∷ reached_in n (drop i zs))) (sym (add-one k))
+-- the fold over the rows that there are, from m on
+least_folded : (n : ℕ) (zs : List (Option ℤ)) (m : ℤ) → nat_abs m ≤ n → AllNear n zs →
+    let w = fold int_min m (flat_map option_to_list zs) in (nat_abs w ≤ n) × (raised n w ≡ least_row (raised n m) (reached_in n zs))
+least_folded n [] m h a = (h, refl)
+least_folded n (None ∷ zs) m h a = least_folded n zs m h a.1
+least_folded n (Some z ∷ zs) m h a =
+    let near : nat_abs z ≤ n = omega (arith, a.0) in
+    let w = least_folded n zs (int_min m z) (smaller-near n m z h near) a.1 in
+    (w.0, w.1 ∙ ap (λ i. least_row i (reached_in n zs)) (smaller n m z h near) ∙ least-min (raised n z) (raised n m) (reached_in n zs))
 
-  pub least-none : get_or zs k None ≡ None → least_row (raised n m) (reached_in n (drop (k + 1) zs)) ≡ least_row (raised n m) (reached_in n (drop k zs))
-  least-none e = sym (next_row None e)
-
-  pub least-some : (z : ℤ) → get_or zs k None ≡ Some z → nat_abs z ≤ n → nat_abs m ≤ n →
-      least_row (raised n (int_min m z)) (reached_in n (drop (k + 1) zs)) ≡ least_row (raised n m) (reached_in n (drop k zs))
-  least-some z e a b =
-      ap (λ (i : ℕ). least_row i (reached_in n (drop (k + 1) zs))) (smaller n m z b a)
-      ∙ least-min (raised n z) (raised n m) (reached_in n (drop (k + 1) zs)) ∙ sym (next_row (Some z) e)
+pub least_is : (n : ℕ) (zs : List (Option ℤ)) → AllNear n zs → IsLeast n (reached_in n zs) (fold int_min (pos 0) (flat_map option_to_list zs))
+least_is n zs a =
+    let w = least_folded n zs (pos 0) (omega arith) a in
+    let z : n + 0 ≡ n = omega arith in
+    record { near = w.0; least = w.1 ∙ ap (λ m. least_row m (reached_in n zs)) z }
 
 -- ---- lowering one more
 lower-keep : (m : ℕ) (v ys : Rows) (k : ℕ) → k < length v → get_or v k none ≡ none → lowered m (take (suc k) v) ys ≡ lowered m (take k v) ys
@@ -145,18 +145,20 @@ numbers-are [] = refl
 numbers-are (None ∷ rows) = ap (λ (l : List ℕ). 0 ∷ l) (numbers-are rows)
 numbers-are (Some r ∷ rows) = ap (λ (l : List ℕ). r ∷ l) (numbers-are rows)
 
-pub numbers_more : (rows : List (Option ℕ)) (k : ℕ) → k < length rows → (now : List ℕ) (a : ℕ) → now ≡ padded 48 0 (numbers_of (take k rows)) → a ≡ unwrap_or (get_or rows k None) 0 →
-    set now k a ≡ padded 48 0 (numbers_of (take (k + 1) rows))
-numbers_more rows k h now a e i =
-    let n : length (numbers_of (take k rows)) ≡ k = length-map (take k rows) (λ o. unwrap_or o 0) ∙ length-take-le k rows (omega arith) in
-    ap (λ (l : List ℕ). set l k a) e ∙ ap (λ (j : ℕ). set (padded 48 0 (numbers_of (take k rows))) j a) (sym n)
-    ∙ padded-set 48 0 (numbers_of (take k rows)) a
-    ∙ ap (padded 48 0) (ap (λ (x : ℕ). numbers_of (take k rows) ++ (x ∷ [])) i ∙ sym (map_more (λ o. unwrap_or o 0) rows k None h))
+numbers-past : (rows : List (Option ℕ)) (k : ℕ) → numbers_of (rows ++ replicate k None) ≡ numbers_of rows ++ replicate k 0
+numbers-past [] zero = refl
+numbers-past [] (suc k) = ap (λ (l : List ℕ). 0 ∷ l) (numbers-past [] k)
+numbers-past (r ∷ rows) k = ap (λ (l : List ℕ). unwrap_or r 0 ∷ l) (numbers-past rows k)
 
-pub padded-is : (m : ℕ) (xs : List ℕ) → length xs ≤ m → padded m 0 xs ≡ xs ++ replicate (m - length xs) 0
-padded-is zero [] h = refl
-padded-is zero (x ∷ xs) h = absurd (omega arith)
-padded-is (suc m) [] h = let e : suc m ≡ suc m - 0 = omega arith in padded-none (suc m) 0 ∙ ap (λ (i : ℕ). replicate i 0) e
-padded-is (suc m) (x ∷ xs) h =
-    let e : m - length xs ≡ suc m - suc (length xs) = omega arith in
-    ap (λ (l : List ℕ). x ∷ l) (padded-is m xs (omega arith) ∙ ap (λ (i : ℕ). xs ++ replicate i 0) e)
+-- what an array's `map` makes of an array that begins with the n rows
+pub numbers-made : {F : Type 0} (g : Mut F (Option ℕ × Unit {0}) ℕ) (f : F) (rows : List (Option ℕ)) (n m : ℕ) (ys : List ℕ) → length rows ≡ n → n ≤ m →
+    IsMapOf g f (rows ++ drop n (replicate m None)) ys m → ((p q : F) (o : Option ℕ) (y : ℕ) → Called g p (o, tt) y q → y ≡ unwrap_or o 0) →
+    ys ≡ numbers_of rows ++ replicate (m - n) 0
+numbers-made g f rows n m ys e h r each =
+    let k : ℕ = m - n in
+    let all : List (Option ℕ) = rows ++ replicate k None in
+    let r : IsMapOf g f all ys m = rw (drop-replicate {A = Option ℕ} n m None) at r in
+    let long : length all ≡ m = omega (arith, e, length-append rows (replicate {A = Option ℕ} k None), length-replicate {A = Option ℕ} k None) in
+    ext_get_or 0 ys (numbers_of all) (r.long ∙ sym long ∙ sym (length-map all (λ o. unwrap_or o 0)))
+    (λ i l. let c = r.at i None 0 (omega (arith, r.long)) in each c.0 c.1 _ _ c.2 ∙ sym (get_or-map (λ o. unwrap_or o 0) all i None 0 (omega (arith, long, r.long))))
+    ∙ numbers-past rows k

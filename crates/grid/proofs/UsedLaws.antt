@@ -3,24 +3,22 @@
 use Prim.Native.Nat.{ℕ, zero, suc, ◌+◌, ◌-◌, ◌*◌, ◌/◌, ◌%◌, ◌^◌, ◌≤◌, ◌<◌, max}
 use native.Mathlib.Omega.{arith}
 use native.Mathlib.Nat.{div_self, div-eq_of_lt, one-mul}
-use native.Mathlib.Numerals.{add-one}
 use mathlib.Core.Path.{◌≡◌, refl, ap, sym, ◌∙◌}
 use mathlib.Core.Logic.{◌⊎◌, inl, inr}
 use mathlib.Core.Bool.{Bool, true, cond, ◌&&◌, ◌||◌, true≢false}
 use mathlib.Core.List.{List, [], ◌∷◌, ◌++◌}
 use lib.Bits.{bit_or, or_shr, or_step, shifted_even}
 use lib.Dec.{eqb}
-use lib.ListN.{length, get_or, set, take, replicate, length-set, get_or-replicate}
+use lib.ListN.{length, get_or, set, replicate, length-set, get_or-replicate}
 use lib.Pow.{pow-lt, pow-add, pow_pos, shl_exact, shl-shr}
 use lib.Seq.{get_or-set_same, get_or-set_other}
 use borrow.Author.Tests.{eq-eqb, ne_eqb}
 use Rattle.laws.proofs.Tests.{and_false, or_true, or_false, same?, less?}
 use Rattle.grid.specs.Lists.{largest}
 use Rattle.grid.specs.Columns.{at, taken, collision, extra, new_columns}
-use Rattle.grid.specs.code.Arrays.{Stands, Tells, Used, used_in, collision_in, extra_in, table_to}
+use Rattle.grid.specs.code.Arrays.{Boxes, Inside, Stands, Tells, Used, used_in, collision_in, extra_in, table_to}
 use Rattle.grid.proofs.ListLaws.{some_below}
 use Rattle.grid.proofs.ColumnLaws.{taken_at}
-use Rattle.grid.proofs.FoldLaws.{taken_more}
 
 -- ---- a bit of a word
 bit-or : (w v c : ℕ) → bit_or w v / 2 ^ c % 2 ≡ max (w / 2 ^ c % 2) (v / 2 ^ c % 2)
@@ -110,29 +108,53 @@ used_none r x h l =
     ∙ ap (λ (w : ℕ). w / 2 ^ (x % 32)) (get_or-replicate 5 (x / 32) 0 0 (omega arith)) ∙ div-eq_of_lt (pow_pos (x % 32)) in
     ne_eqb (at (get_or empty r []) (x / 32) / 2 ^ (x % 32) % 2) 1 (λ q. omega arith)
 
--- box k after those before it
-module _ (rows cols : List ℕ) (used : List (List ℕ)) (k : ℕ) (hr : k < length rows) (hc : k < length cols) (whole : Whole used) (hy : at rows k < 48) (hx : at cols k < 160) (u : Tells (take k rows) (take k cols) used) where
-  abbrev after : List (List ℕ)
-  after = stored used whole (at rows k) (at cols k) hy hx
+-- the boxes that are left, with rows below 48 and columns below 144, and the table of those before them
+pub record Left (rows cols ys cs : List ℕ) (used : List (List ℕ)) : Type 0 where
+  pub long : length ys ≡ length cs
+  pub row : Inside 48 ys
+  pub column : Inside 144 cs
+  pub met : (r x : ℕ) → r < 48 → x < 160 → used_in used r x || taken ys cs r x ≡ taken rows cols r x
 
-  used_next : (r x : ℕ) → r < 48 → x < 160 → (at rows k ≡ r) ⊎ (at rows k ≡ r → ⊥) → (at cols k ≡ x) ⊎ (at cols k ≡ x → ⊥) →
-      used_in after r x ≡ taken (take k rows) (take k cols) r x || (eqb (at rows k) r && eqb (at cols k) x)
-  used_next r x h l (inl e) (inl f) =
-      ap (λ (i : ℕ). used_in after i x) (sym e) ∙ ap (λ (j : ℕ). used_in after (at rows k) j) (sym f)
-      ∙ stored_there used whole (at rows k) (at cols k) hy hx
-      ∙ sym (rw (eq-eqb (at rows k) r e, eq-eqb (at cols k) x f) (or_true (taken (take k rows) (take k cols) r x)))
-  used_next r x h l (inl e) (inr o) =
-      stored_other used whole (at rows k) (at cols k) hy hx r x l (λ q. o q.1) ∙ u r x h l
-      ∙ sym (rw (ne_eqb (at cols k) x o, and_false (eqb (at rows k) r)) (or_false (taken (take k rows) (take k cols) r x)))
-  used_next r x h l (inr o) q =
-      stored_other used whole (at rows k) (at cols k) hy hx r x l (λ q. o q.0) ∙ u r x h l
-      ∙ sym (rw (ne_eqb (at rows k) r o) (or_false (taken (take k rows) (take k cols) r x)))
+pub left_first : (n : ℕ) (rows cols : List ℕ) → Boxes n rows cols → Left rows cols rows cols empty
+left_first n rows cols b =
+    record {
+      long = b.rows_long ∙ sym b.cols_long;
+      row = record { below = λ k l. b.row k (omega (arith, b.rows_long)) };
+      column = record { below = λ k l. b.column k (omega (arith, b.cols_long)) };
+      met = λ r x h l. ap (λ (t : Bool). t || taken rows cols r x) (used_none r x h l);
+    }
+
+-- the next of them
+module _ (rows cols : List ℕ) (used : List (List ℕ)) (y c : ℕ) (ys cs : List ℕ) (whole : Whole used) (left : Left rows cols (y ∷ ys) (c ∷ cs) used) where
+  hy : y < 48
+  hy = left.row.below 0 (omega arith)
+
+  hx : c < 160
+  hx = omega (arith, left.column.below 0 (omega arith))
+
+  abbrev after : List (List ℕ)
+  after = stored used whole y c hy hx
+
+  used_next : (r x : ℕ) → x < 160 → (y ≡ r) ⊎ (y ≡ r → ⊥) → (c ≡ x) ⊎ (c ≡ x → ⊥) →
+      used_in after r x || taken ys cs r x ≡ used_in used r x || ((eqb y r && eqb c x) || taken ys cs r x)
+  used_next r x l (inl e) (inl f) =
+      ap (λ (t : Bool). t || taken ys cs r x) (ap (λ (i : ℕ). used_in after i x) (sym e) ∙ ap (λ (j : ℕ). used_in after y j) (sym f) ∙ stored_there used whole y c hy hx)
+      ∙ sym (rw (eq-eqb y r e, eq-eqb c x f) (or_true (used_in used r x)))
+  used_next r x l (inl e) (inr o) =
+      ap (λ (t : Bool). t || taken ys cs r x) (stored_other used whole y c hy hx r x l (λ q. o q.1)) ∙ sym (rw (ne_eqb c x o, and_false (eqb y r)) refl)
+  used_next r x l (inr o) q =
+      ap (λ (t : Bool). t || taken ys cs r x) (stored_other used whole y c hy hx r x l (λ q. o q.0)) ∙ sym (rw (ne_eqb y r o) refl)
 
   -- by the code's bit
-  pub used_more : {v : ℕ} → v ≡ 2 ^ (at cols k % 32) → Whole (marked used (at rows k) (at cols k / 32) v) × Tells (take (k + 1) rows) (take (k + 1) cols) (marked used (at rows k) (at cols k / 32) v)
-  used_more e = rw e (
-    stored-whole used whole (at rows k) (at cols k) hy hx,
-    λ r x h l. rw (add-one k, taken_more rows cols k r x hr hc) (used_next r x h l (same? (at rows k) r) (same? (at cols k) x)),
+  pub left_more : {v : ℕ} → v ≡ 2 ^ (c % 32) → Whole (marked used y (c / 32) v) × Left rows cols ys cs (marked used y (c / 32) v)
+  left_more e = rw e (
+    stored-whole used whole y c hy hx,
+    record {
+      long = omega (arith, left.long);
+      row = record { below = λ k l. left.row.below (suc k) (omega arith) };
+      column = record { below = λ k l. left.column.below (suc k) (omega arith) };
+      met = λ r x h l. used_next r x l (same? y r) (same? c x) ∙ left.met r x h l;
+    },
   )
 
 -- ---- exactly if a box of that row stands there
@@ -151,8 +173,9 @@ taken-box (y ∷ rows) (c ∷ cols) r x h = go (taken-box rows cols r x) (same? 
     go i (inr o) q = later (i (rw (ne_eqb y r o) at h))
 
 -- the table of all boxes
-pub used_all : (rows cols : List ℕ) (used : List (List ℕ)) → length cols ≡ length rows → Tells rows cols used → Used rows cols used
-used_all rows cols used e u =
+pub used_all : (rows cols : List ℕ) (used : List (List ℕ)) → length cols ≡ length rows → Left rows cols [] [] used → Used rows cols used
+used_all rows cols used e left =
+    let u : Tells rows cols used = λ r x h l. sym (or_false (used_in used r x)) ∙ left.met r x h l in
     record {
       exactly = λ r x h l. (λ t. taken-box rows cols r x (sym (u r x h l) ∙ t), λ b. u r x h l ∙ taken_at rows cols b.0 r x b.1 (omega (arith, b.1)) b.2 b.3);
       tells = u;

@@ -25,8 +25,8 @@ fn used_columns(rows: &[u8], cols: &[u8]) -> UsedColumns
     ensures { Used rows.now cols.now result }
 {
     let mut used = [[0u32; 5]; 48];
-    for (k, x) in cols.iter().enumerate() {
-        used[rows[k] as usize][(*x / 32) as usize] |= 1u32 << (*x % 32);
+    for (r, x) in rows.iter().zip(cols) {
+        used[*r as usize][(*x / 32) as usize] |= 1u32 << (*x % 32);
     }
     used
 }
@@ -111,8 +111,8 @@ fn room_of(rows: &[u8], cols: &[u8], p: usize) -> Room
     let x = cols[p];
     let mut low = 0u8;
     let mut next: Option<u8> = None;
-    for (k, c) in cols.iter().enumerate() {
-        if rows[k] == r {
+    for (y, c) in rows.iter().zip(cols) {
+        if *y == r {
             if *c < x {
                 low = low.max(*c + 1);
             } else if x < *c {

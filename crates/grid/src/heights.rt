@@ -63,13 +63,7 @@ fn least_row(walked: &[Option<i8>]) -> i8
     requires { (length walked.now ≤ 48) × AllNear (length walked.now) walked.now }
     ensures { IsLeast (length walked.now) (reached_in (length walked.now) walked.now) result }
 {
-    let mut least = 0i8;
-    for row in walked {
-        if let Some(r) = row {
-            least = least.min(*r);
-        }
-    }
-    least
+    walked.iter().copied().flatten().fold(0, i8::min)
 }
 
 // All that have a row in walked are lowered by m; the others keep theirs.
@@ -108,14 +102,10 @@ pub fn heights(leads: &Leads) -> [u8; 48]
     ensures { result ≡ heights leads.now ++ replicate (48 - length leads.now) 0 }
 {
     let n = leads.nodes();
-    let mut none = [None; 48];
-    let rows = &mut none[..n];
+    let mut all = [None; 48];
+    let rows = &mut all[..n];
     for p in 0..n {
         turn(leads, p as u8, rows);
     }
-    let mut numbers = [0u8; 48];
-    for (k, row) in rows.iter().enumerate() {
-        numbers[k] = row.unwrap_or(0);
-    }
-    numbers
+    all.map(|row| row.unwrap_or(0))
 }

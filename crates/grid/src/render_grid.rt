@@ -3,7 +3,7 @@ ghost use Rattle.std.specs.Prelude.{◌≡◌, ℕ, ◌+◌, ◌<◌, ◌≤◌,
 ghost use Rattle.laws.specs.Lists.{All, padded};
 ghost use Rattle.laws.specs.Each.{each};
 ghost use Rattle.graph.specs.Graph.{node_at};
-ghost use Rattle.graph.specs.code.Tables.{items_of, mark_of, name_line, graph_of, Aimed};
+ghost use Rattle.graph.specs.code.Tables.{items_of, name_line, graph_of, Aimed};
 ghost use Rattle.grid.specs.Record.{no_box};
 ghost use Rattle.grid.specs.RenderGrid.{begins, extent as extent_of, owner_in, sheet_of};
 ghost use Rattle.grid.specs.Curves.{record_of};
@@ -12,7 +12,7 @@ ghost use Rattle.grid.specs.code.Row.{end_for, ends_left};
 ghost use Rattle.grid.specs.code.Laid.{Bounded, line_of, size_of, gap_of, begins_to, no_sides, sized_in, sides_in, placed_at, moved as moved_to, Near, inputs_in, outputs_in, no_curves, curves_at};
 
 use crate::lists::largest_of;
-use crate::render_node::row::{End, Laid};
+use crate::render_node::row::{End, RunEnds};
 use crate::render_node::{Run, Sides, node_of};
 use crate::{BoxRecord, Curve, NO_OWNER, SheetRecord};
 use graph::{Items, Name, Tables};
@@ -153,13 +153,13 @@ fn moved(run: Run, b: &BoxRecord) -> Run
     }
 }
 
-// Of a node's sinks, the one that a source of k belongs to: the marked one, whose number is held plus 1, or the first that leads to k. (A byte for each mark: it is fixed memory.)
-fn output_for(mut sinks: Laid<'_>, mark: u8, k: u8) -> Option<End>
-    ensures { result ≡ end_for (mark_of mark) k (ends_left sinks.entry) }
+// Of a node's sinks, the one that a source of k belongs to: the one with the number that it marks, or the first that leads to k.
+fn output_for(mut sinks: RunEnds<'_>, number: Option<u8>, k: u8) -> Option<End>
+    ensures { result ≡ end_for number k (ends_left sinks.entry) }
 {
-    match mark {
-        0 => sinks.find(|e| e.item.to == k),
-        m => sinks.nth(m as usize - 1),
+    match number {
+        None => sinks.find(|e| e.item.to == k),
+        Some(i) => sinks.nth(i as usize),
     }
 }
 
@@ -185,7 +185,7 @@ fn all_curves(
             let from = e.item.to as usize;
             let run = moved(sides[from].outputs, &boxes[from]);
             let ends = run.ends(sinks, e.item.to);
-            if let Some(output) = output_for(ends, e.item.mark, k as u8) {
+            if let Some(output) = output_for(ends, e.item.number(), k as u8) {
                 all.push(Curve {
                     x0: output.point,
                     y0: run.y,

@@ -1,6 +1,6 @@
 -- Lines of hexadecimal digits in lower case, after a D or not.
 -- Assumes nothing.
-use Rattle.std.specs.Prelude.{ℕ, zero, suc, ◌+◌, ◌-◌, ◌*◌, Bool, false, cond, List, [], ◌∷◌, length, eqb, ltb, get_or, set, take, drop}
+use Rattle.std.specs.Prelude.{ℕ, zero, suc, ◌+◌, ◌-◌, ◌*◌, ◌/◌, min, Bool, false, cond, List, [], ◌∷◌, length, eqb, ltb, get_or, set, take, drop}
 use Rattle.std.specs.List.{position_or_len}
 use Rattle.laws.specs.Each.{each}
 use Rattle.chart.specs.declared.Setting.{Setting}
@@ -52,3 +52,7 @@ byte_at s k = 16 * digit_of (get_or s (2 * k) 0) + digit_of (get_or s (2 * k + 1
 -- the buffer with the text's first k bytes at its start
 abbrev pub decoded : List ℕ → ℕ → List ℕ → List ℕ
 decoded s k buf = each buf (λ i b. set b i (byte_at s i)) k
+
+-- the bytes that the text names, as many as the buffer has room for
+abbrev pub chart_in : List ℕ → List ℕ → List ℕ
+chart_in s buf = let n = min (length s / 2) (length buf) in take n (decoded s n buf)

@@ -5,7 +5,7 @@ ghost use Rattle.std.specs.Prelude.{min, ℕ, List, Option, ◌/◌, ◌≤◌, 
 ghost use Rattle.std.specs.Io.{StartsWith};
 ghost use Rattle.std.specs.Iterator.{YieldsFirstRef, item_count};
 ghost use Rattle.std.specs.List.{FoldsTo};
-ghost use Rattle.lines.specs.Lines.{digit_of, line_of, lines_of, lines_left, is_default, setting_of, digits_of, decoded};
+ghost use Rattle.lines.specs.Lines.{digit_of, line_of, lines_of, lines_left, is_default, setting_of, digits_of, decoded, chart_in};
 
 use chart::Setting;
 use std::alloc::Allocator;
@@ -112,6 +112,14 @@ pub fn decode(text: &[u8], out: &mut [u8]) -> usize
         out[k] = 16 * digit(text[2 * k]) + digit(text[2 * k + 1]);
     }
     n
+}
+
+// The bytes that the digits name, as many as there is room for: they stand at the start of the room lent.
+pub fn chart_of<'a>(digits: &[u8], room: &'a mut [u8]) -> &'a [u8]
+    ensures { result.now ≡ chart_in digits.now room.old }
+{
+    let n = decode(digits, room);
+    &room[..n]
 }
 
 // A program that prints something of each line of its input.

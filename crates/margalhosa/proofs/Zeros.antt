@@ -12,9 +12,9 @@ use Rattle.signal.specs.declared.NoOrder.{NoOrder}
 use Rattle.signal.specs.declared.NoOrder.TheVariants.{Refused, Cycle}
 use Rattle.signal.specs.Outcome.{Nodes}
 use Rattle.grid.specs.declared.BoxRecord.{BoxRecord}
+use Rattle.grid.specs.declared.LabelPlace.{LabelPlace}
 use Rattle.grid.specs.declared.SheetRecord.{SheetRecord}
 use Rattle.path.specs.declared.Segment.{Segment}
-use Rattle.path.specs.declared.PlacedLabel.{PlacedLabel}
 use Rattle.path.specs.declared.LabelSpan.{LabelSpan}
 use Rattle.margalhosa.specs.Results.{sheet_result, box_result, segment_result, count_result, label_result, part_result, order_result}
 
@@ -51,7 +51,7 @@ pub box_zero : (r : Result BoxRecord Refusal) → (box_result r).refused ≡ 0 �
 box_zero (Ok b) e = refl
 box_zero (Err why) e = absurd (omega (arith, number-some why, e))
 
-pub label_zero : (r : Result PlacedLabel Refusal) → (label_result r).refused ≡ 0 → (l : PlacedLabel) × (r ≡ Ok l)
+pub label_zero : (r : Result LabelPlace Refusal) → (label_result r).refused ≡ 0 → (l : LabelPlace) × (r ≡ Ok l)
 label_zero (Ok l) e = (l, refl)
 label_zero (Err why) e = absurd (omega (arith, number-some why, e))
 

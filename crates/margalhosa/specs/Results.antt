@@ -15,6 +15,7 @@ use Rattle.signal.specs.Signal.{signal}
 use Rattle.signal.specs.Outcome.{Nodes, nodes_held, answer_of as order_of}
 use Rattle.signal.specs.Laws.{IsSignalOrder}
 use Rattle.grid.specs.declared.BoxRecord.{BoxRecord}
+use Rattle.grid.specs.declared.LabelPlace.{LabelPlace}
 use Rattle.grid.specs.Record.{no_box, no_sheet}
 use Rattle.grid.specs.Sheeted.{sheeted, answer_of}
 use Rattle.grid.specs.LaidOut.{LaidOut, IsSheet}
@@ -23,7 +24,6 @@ use Rattle.grid.specs.declared.SheetRecord.{SheetRecord}
 use Rattle.path.specs.declared.Pen.{Pen}
 use Rattle.path.specs.declared.Segment.{Segment}
 use Rattle.path.specs.declared.Segment.TheVariants.{Move, Line, Cubic, Close}
-use Rattle.path.specs.declared.PlacedLabel.{PlacedLabel}
 use Rattle.path.specs.declared.LabelSpan.{LabelSpan}
 use Rattle.path.specs.Text.{text_of}
 use Rattle.path.specs.Segments.{drawn_of}
@@ -115,13 +115,13 @@ pub record IsRewriteResult (s buf : List ℕ) (r : CountResult) (out : List ℕ)
   pub same : r.refused ≡ 0 → (r.count ≡ length s) × (out ≡ s ++ drop r.count buf)
 
 -- ---- labels
-abbrev pub label_by : Numbers → PlacedLabel → LabelResult
-label_by n l = record { refused = n.first; second = n.second; x = l.x; y = l.y; size = l.size; width = l.width }
+abbrev pub label_by : Numbers → ℕ → ℕ → ℕ → ℕ → LabelResult
+label_by n x y size width = record { refused = n.first; second = n.second; x = x; y = y; size = size; width = width }
 
 -- refused, 'all numbers are 0'
-abbrev pub label_result : Result PlacedLabel Refusal → LabelResult
-label_result (Ok l) = label_by (numbers 0 0) l
-label_result (Err why) = label_by (numbers_of why) (record { x = 0; y = 0; size = 0; width = 0 })
+abbrev pub label_result : Result LabelPlace Refusal → LabelResult
+label_result (Ok l) = label_by (numbers 0 0) l.x l.y l.size l.width
+label_result (Err why) = label_by (numbers_of why) 0 0 0 0
 
 abbrev pub part_by : Numbers → LabelSpan → PartResult
 part_by n (LabelSpan.InChart at len) = record { refused = n.first; second = n.second; fixed = 0; at = at; len = len }

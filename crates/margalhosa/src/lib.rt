@@ -5,18 +5,18 @@
 ghost use Rattle.std.specs.Prelude.{◌≡◌, ◌≤◌};
 ghost use Rattle.refusals.specs.Refusals.{numbers, numbers_of};
 ghost use Rattle.grid.specs.Record.{no_sheet, box_answer_of};
-ghost use Rattle.grid.specs.Labelled.{labelled};
+ghost use Rattle.grid.specs.Labelled.{labelled, label_place_of};
 ghost use Rattle.path.specs.Reader.{read};
 ghost use Rattle.path.specs.Answers.{sheet_answer, count_of};
 ghost use Rattle.path.specs.Promises.{IsReading};
-ghost use Rattle.path.specs.Label.{placed_label_of};
+ghost use Rattle.path.specs.Label.{tabled};
 ghost use Rattle.margalhosa.specs.Results.{setting_of, IsSheetResult, box_result, segment_result, IsSegmentResult, IsTextResult, count_result, IsRewriteResult, label_result, IsPartResult, order_by, IsOrderResult};
 
 use chart::Setting;
 use grid::{BoxRecord, SheetRecord, no_sheet};
 use path::{LabelSpan, Pen, Segment};
 use refusals::{Refusal, TextRefusal};
-use signal::{CYCLE, NoOrder, Nodes};
+use signal::{NoOrder, Nodes};
 use tables::Table;
 
 // A sheet; refused, every field of it is 0.
@@ -115,52 +115,52 @@ fn setting_of(number: u32) -> Setting
     Setting::Strict
 }
 
-// A segment, or its refusal.
-fn given(g: Result<Segment, TextRefusal>) -> SegmentResult
-    ensures { result ≡ segment_result g }
-{
-    let none = SegmentResult::default();
-    match g {
-        Ok(Segment::Move(to)) => SegmentResult { to, ..none },
-        Ok(Segment::Line(to)) => SegmentResult {
-            kind: 1,
-            to,
-            ..none
-        },
-        Ok(Segment::Cubic(control0, control1, to)) => SegmentResult {
-            kind: 2,
-            control0,
-            control1,
-            to,
-            ..none
-        },
-        Ok(Segment::Close) => SegmentResult { kind: 3, ..none },
-        Err(r) => {
-            let n = r.numbers();
-            SegmentResult {
-                refused: n.first as u32,
-                second: n.second,
+impl From<Result<Segment, TextRefusal>> for SegmentResult {
+    ghost from_gives = { λ given r. r ≡ segment_result given };
+
+    fn from(given: Result<Segment, TextRefusal>) -> Self {
+        let none = SegmentResult::default();
+        match given {
+            Ok(Segment::Move(to)) => SegmentResult { to, ..none },
+            Ok(Segment::Line(to)) => SegmentResult {
+                kind: 1,
+                to,
                 ..none
+            },
+            Ok(Segment::Cubic(control0, control1, to)) => SegmentResult {
+                kind: 2,
+                control0,
+                control1,
+                to,
+                ..none
+            },
+            Ok(Segment::Close) => SegmentResult { kind: 3, ..none },
+            Err(why) => {
+                let n = why.numbers();
+                SegmentResult {
+                    refused: n.first as u32,
+                    second: n.second,
+                    ..none
+                }
             }
         }
     }
 }
 
-// How many bytes were written, or how many segments a text has, or the refusal.
-fn counted(c: Result<usize, TextRefusal>) -> CountResult
-    ensures { result ≡ count_result c }
-{
-    match c {
-        Ok(count) => CountResult {
-            count,
-            ..CountResult::default()
-        },
-        Err(r) => {
-            let n = r.numbers();
-            CountResult {
-                refused: n.first as u32,
-                second: n.second,
-                ..CountResult::default()
+impl From<Result<usize, TextRefusal>> for CountResult {
+    ghost from_gives = { λ counted r. r ≡ count_result counted };
+
+    fn from(counted: Result<usize, TextRefusal>) -> Self {
+        let none = CountResult::default();
+        match counted {
+            Ok(count) => CountResult { count, ..none },
+            Err(why) => {
+                let n = why.numbers();
+                CountResult {
+                    refused: n.first as u32,
+                    second: n.second,
+                    ..none
+                }
             }
         }
     }
@@ -208,7 +208,7 @@ pub extern "C" fn margalhosa_box(sheet: SheetRecord, k: u32) -> BoxResult
 pub extern "C" fn margalhosa_segment(sheet: SheetRecord, k: u32) -> SegmentResult
     ensures { IsSegmentResult k (sheet_answer sheet) result }
 {
-    given(path::sheet_segment(&sheet, k as usize))
+    path::sheet_segment(&sheet, k as usize).into()
 }
 
 // The whole text of a sheet, written at the buffer's start: 14, 16. Refused, nothing is written.
@@ -216,7 +216,7 @@ pub extern "C" fn margalhosa_segment(sheet: SheetRecord, k: u32) -> SegmentResul
 pub extern "C" fn margalhosa_text(sheet: SheetRecord, buf: &mut [u8]) -> CountResult
     ensures { IsTextResult sheet buf.old result buf.new }
 {
-    counted(path::write_sheet(&sheet, buf))
+    path::write_sheet(&sheet, buf).into()
 }
 
 // Where label i of box k of the chart's sheet stands, its size and its width: 1 to 15.
@@ -230,7 +230,7 @@ pub extern "C" fn margalhosa_label_place(
     k: u32,
     i: u32,
 ) -> LabelResult
-    ensures { result ≡ label_result (placed_label_of table.now (labelled (setting_of setting) chart.now x y k i)) }
+    ensures { result ≡ label_result (label_place_of (tabled table.now (labelled (setting_of setting) chart.now x y k i))) }
 {
     match path::label_place(
         chart,
@@ -303,7 +303,7 @@ pub extern "C" fn margalhosa_text_count(text: &[u8]) -> CountResult
     ensures count { result ≡ count_result (count_of (read text.now)) }
     ensures reading { IsReading text.now }
 {
-    counted(path::text_count(text))
+    path::text_count(text).into()
 }
 
 // Segment k of a path text: 17 to 19, then 15.
@@ -312,7 +312,7 @@ pub extern "C" fn margalhosa_text_segment(text: &[u8], k: u32) -> SegmentResult
     ensures segment { IsSegmentResult k (read text.now) result }
     ensures reading { IsReading text.now }
 {
-    given(path::text_segment(text, k as usize))
+    path::text_segment(text, k as usize).into()
 }
 
 // A path text read and written again, at the buffer's start: 17 to 19, then 16. Refused, nothing is written.
@@ -321,7 +321,7 @@ pub extern "C" fn margalhosa_rewrite(text: &[u8], buf: &mut [u8]) -> CountResult
     ensures written { IsRewriteResult text.now buf.old result buf.new }
     ensures reading { IsReading text.now }
 {
-    counted(path::rewrite(text, buf))
+    path::rewrite(text, buf).into()
 }
 
 // Nodes, with the two numbers of a refusal or 0 0.
@@ -344,7 +344,13 @@ pub extern "C" fn margalhosa_signal_order(chart: &[u8]) -> OrderResult
 {
     match signal::signal_order(chart) {
         Ok(t) => order_by(0, 0, &t),
-        Err(NoOrder::Cycle(t)) => order_by(CYCLE as u32, 0, &t),
-        Err(NoOrder::Refused(why)) => order_by(first_of(why), second_of(why), &Table::empty(0)),
+        Err(why) => {
+            let n = why.numbers();
+            let nodes = match why {
+                NoOrder::Cycle(t) => t,
+                NoOrder::Refused(_) => Table::empty(0),
+            };
+            order_by(n.first as u32, n.second as u32, &nodes)
+        }
     }
 }

@@ -22,6 +22,7 @@ use Rattle.graph.specs.declared.Lead.{Lead}
 use Rattle.graph.specs.Items.{Ends}
 use Rattle.graph.specs.Shape.{Incidents}
 use Rattle.graph.specs.Ends.{no_lead, targets_of, ends_of, incidents_in, shape_from, Linked}
+use Rattle.order.specs.declared.codes.Pair.{Pair}
 use Rattle.order.specs.Against.{Against, against, neighbours, neighbours_from, reversed_if, with_sources, with_sinks, of_node, of_nodes, all}
 use Rattle.order.specs.Claims.{Under, Aimed}
 use Rattle.order.specs.code.Sums.{code_of, Codes}
@@ -92,33 +93,33 @@ module _ (n : ℕ) (sources sinks : Ends) (x : Linked n sources) (y : Linked n s
   shape-aimed = rw shape_size (aimed-from 0 n)
 
 -- ---- what is pushed
-pub pushed-none : (t : Table ℕ 352) → Pushed t t []
+pub pushed-none : (t : Table Pair 352) → Pushed t t []
 pushed-none t = record { list = append-nil-back (take t.count t.items); count = omega arith }
   where
-    append-nil-back : (l : List ℕ) → l ≡ l ++ []
+    append-nil-back : (l : List Pair) → l ≡ l ++ []
     append-nil-back l = sym (append-nil l)
 
-pub pushed-then : (t u v : Table ℕ 352) (xs ys : List ℕ) → Pushed t u xs → Pushed u v ys → Pushed t v (xs ++ ys)
+pub pushed-then : (t u v : Table Pair 352) (xs ys : List Pair) → Pushed t u xs → Pushed u v ys → Pushed t v (xs ++ ys)
 pushed-then t u v xs ys a b =
     record {
-      list = b.list ∙ ap (λ (l : List ℕ). l ++ ys) a.list ∙ append_assoc (take t.count t.items) xs ys;
+      list = b.list ∙ ap (λ (l : List Pair). l ++ ys) a.list ∙ append_assoc (take t.count t.items) xs ys;
       count = omega (arith, a.count, b.count, length-append xs ys);
     }
 
-pub pushed-one : (t u : Table ℕ 352) (x : ℕ) (r : Bool) → length t.items ≡ 352 → t.count < 352 → r ≡ ltb t.count 352 → u ≡ pushed_if r t x → Pushed t u (one x)
+pub pushed-one : (t u : Table Pair 352) (x : Pair) (r : Bool) → length t.items ≡ 352 → t.count < 352 → r ≡ ltb t.count 352 → u ≡ pushed_if r t x → Pushed t u (one x)
 pushed-one t u x r long room b w =
     rw (w, b, lt-ltb t.count 352 room)
     (record { list = ap (λ k. take k (set t.items t.count x)) (add-one t.count) ∙ take-suc-set t.items t.count x (omega arith); count = refl })
 
 -- of ys, which are pushed on t, xs are left
-pub record Left (t u : Table ℕ 352) (ys xs : List ℕ) : Type 0 where
-  pub done : List ℕ
+pub record Left (t u : Table Pair 352) (ys xs : List Pair) : Type 0 where
+  pub done : List Pair
   pub parts : ys ≡ done ++ xs
   pub pushed : Pushed t u done
 
-pub left-next : (t u v : Table ℕ 352) (ys : List ℕ) (x y : ℕ) (xs : List ℕ) (r : Bool) → t.count + length ys ≤ 352 → Left t u ys (x ∷ xs) → y ≡ x → length u.items ≡ 352 → r ≡ ltb u.count 352 → v ≡ pushed_if r u y → Left t v ys xs
+pub left-next : (t u v : Table Pair 352) (ys : List Pair) (x y : Pair) (xs : List Pair) (r : Bool) → t.count + length ys ≤ 352 → Left t u ys (x ∷ xs) → y ≡ x → length u.items ≡ 352 → r ≡ ltb u.count 352 → v ≡ pushed_if r u y → Left t v ys xs
 left-next t u v ys x y xs r room l e long b w =
-    let few : u.count < 352 = omega (arith, l.pushed.count, ap (λ (z : List ℕ). length z) l.parts, length-append l.done (x ∷ xs)) in
+    let few : u.count < 352 = omega (arith, l.pushed.count, ap (λ (z : List Pair). length z) l.parts, length-append l.done (x ∷ xs)) in
     record {
       done = l.done ++ one x;
       parts = l.parts ∙ sym (append_assoc l.done (one x) xs);
@@ -167,7 +168,7 @@ with-sinks p len i (q ∷ qs) = ap (λ (l : List Against). reversed_if (leb (len
 
 map-join : (xs ys : List Against) → map code_of (xs ++ ys) ≡ map code_of xs ++ map code_of ys
 map-join [] ys = refl
-map-join (x ∷ xs) ys = ap (λ (l : List ℕ). code_of x ∷ l) (map-join xs ys)
+map-join (x ∷ xs) ys = ap (λ (l : List Pair). code_of x ∷ l) (map-join xs ys)
 
 pub node-is : (p : ℕ) (e : Incidents) → list_codes 1 p e.sources ++ list_codes 0 p e.sinks ≡ node_codes p e
 node-is p e =
@@ -182,7 +183,7 @@ node-is p e =
 
 pub length-node : (p : ℕ) (e : Incidents) → length (node_codes p e) ≤ 2 * length e.sources + 2 * length e.sinks
 length-node p e =
-    omega (arith, ap (λ (l : List ℕ). length l) (node-is p e), length-append (list_codes 1 p e.sources) (list_codes 0 p e.sinks), length_list 1 p e.sources, length_list 0 p e.sinks)
+    omega (arith, ap (λ (l : List Pair). length l) (node-is p e), length-append (list_codes 1 p e.sources) (list_codes 0 p e.sinks), length_list 1 p e.sources, length_list 0 p e.sinks)
 
 -- ---- the codes of the first nodes
 module _ (f : ℕ → Incidents) where
@@ -194,7 +195,7 @@ module _ (f : ℕ → Incidents) where
       ∙ sym (append_assoc (of_node p (f p)) (of_nodes (suc p) (tabulate f (suc p) k)) (of_node (p + suc k) (f (p + suc k))))
 
 -- the codes of the first k nodes
-unfoldable pub codes_to : Ends → Ends → ℕ → List ℕ
+unfoldable pub codes_to : Ends → Ends → ℕ → List Pair
 codes_to sources sinks k = map code_of (of_nodes 0 (tabulate (incidents_in sources sinks) 0 k))
 
 module _ (sources sinks : Ends) where
@@ -218,9 +219,9 @@ module _ (sources sinks : Ends) where
   most k = 2 * sum_to k (λ q. length (ends_of sources q)) + 2 * sum_to k (λ q. length (ends_of sinks q))
 
   codes-most : (k : ℕ) → length (codes_to sources sinks k) ≤ most k
-  codes-most zero = omega (arith, ap (λ (l : List ℕ). length l) codes-none)
+  codes-most zero = omega (arith, ap (λ (l : List Pair). length l) codes-none)
   codes-most (suc k) =
-      omega (arith, ap (λ (l : List ℕ). length l) (codes_suc k), length-append (codes_to sources sinks k) (node_codes k (f k)), codes-most k, length-node k (f k))
+      omega (arith, ap (λ (l : List Pair). length l) (codes_suc k), length-append (codes_to sources sinks k) (node_codes k (f k)), codes-most k, length-node k (f k))
 
 -- ---- the room: each record is one node's
 sum_past : (n o : ℕ) (g : ℕ → ℕ) → n ≤ o → sum_to n (λ q. tally (eqb o q) (g q)) ≡ sum_to n g
@@ -260,11 +261,11 @@ module _ (n : ℕ) (sources sinks : Ends) (x : Linked n sources) (y : Linked n s
   unfolding codes_to shape_from all
   codes_same = refl
 
-  pub codes_all : (xs : List ℕ) → xs ≡ codes_to sources sinks n → Codes (shape_from n sources sinks) xs
+  pub codes_all : (xs : List Pair) → xs ≡ codes_to sources sinks n → Codes (shape_from n sources sinks) xs
   codes_all xs e =
       record {
         few = omega (arith, shape_size n sources sinks x y, x.nodes);
         aimed = shape-aimed n sources sinks x y;
-        room = omega (arith, ap (λ (v : List ℕ). length v) e, room-all n);
+        room = omega (arith, ap (λ (v : List Pair). length v) e, room-all n);
         same = e ∙ codes_same;
       }

@@ -71,13 +71,13 @@ module _ (n : ℕ) (cs : Chains) (h : Held) (s : Stand n cs h) where
       chain-is p cs (colour_at h p) (omega (arith, a.colour, s.tops.size)) (has_here p (chain cs (colour_at h p)) (place_at h p) a.place a.node)
       (λ j k. not_there p j (has p (chain cs j)) (omega (arith, a.colour)) (λ e. omega arith) refl)
 
-  pub fit : Sound n cs → Fit n h
+  pub fit : Sound n cs → Fit h
   fit o =
       record {
-        few = s.tops.few;
-        colours = λ p l. (s.at p l).colour;
-        places = λ p l. omega (arith, (s.at p l).place, chain-short cs (colour_at h p), o.nodes, s.tops.few);
-        lengths = λ k l. omega (arith, ap (λ (t : Chain). t.length) (s.tops.each k l), chain-short cs k, o.nodes, s.tops.few);
+        few = omega (arith, s.count, s.tops.few);
+        colours = λ p l. omega (arith, s.count, (s.at p (omega (arith, s.count))).colour);
+        places = λ p l. omega (arith, (s.at p (omega (arith, s.count))).place, chain-short cs (colour_at h p), o.nodes, s.tops.few);
+        lengths = λ k l. omega (arith, ap (λ (t : Chain). t.length) (s.tops.each k (omega (arith, s.count))), chain-short cs k, o.nodes, s.tops.few);
       }
 
 -- ---- each node in a chain of its own
@@ -93,49 +93,50 @@ single-long p (suc k) = ap suc (single-long (suc p) k)
 single-chain : (n k : ℕ) → k < n → chain (single 0 n) k ≡ k ∷ []
 single-chain n k h = let e : 0 + k ≡ k = omega arith in single-at 0 n k h ∙ ap (λ (q : ℕ). q ∷ []) e
 
-separate_seat : (k : ℕ) → k < 48 → seat_at separate_of k ≡ seat k 0
-separate_seat k h = get_d_tabulate (λ (k : ℕ). seat k 0) 0 48 k (seat 0 0) h ∙ ap (λ (k : ℕ). seat k 0) (omega arith)
+separate_seat : (n k : ℕ) → k < 48 → seat_at (separate_of n) k ≡ seat k 0
+separate_seat n k h = get_d_tabulate (λ (k : ℕ). seat k 0) 0 48 k (seat 0 0) h ∙ ap (λ (k : ℕ). seat k 0) (omega arith)
 
-separate_chain : (k : ℕ) → k < 48 → top_at separate_of.chains k ≡ top 1 k
-separate_chain k h = get_d_tabulate (top 1) 0 48 k no_top h ∙ ap (top 1) (omega arith)
+separate_chain : (n k : ℕ) → k < 48 → top_at (separate_of n).chains k ≡ top 1 k
+separate_chain n k h = get_d_tabulate (top 1) 0 48 k no_top h ∙ ap (top 1) (omega arith)
 
 module _ (n : ℕ) (few : n ≤ 48) where
   abbrev cs : Chains
   cs = single 0 n
 
-  separate_at : (p : ℕ) → p < n → At n cs separate_of p
+  separate_at : (p : ℕ) → p < n → At n cs (separate_of n) p
   separate_at p l =
-      let a = separate_seat p (omega arith) in
-      let e : colour_at separate_of p ≡ p = ap (λ (s : Seat). s.colour.0) a in
-      let z : place_at separate_of p ≡ 0 = ap (λ (s : Seat). s.place) a in
-      let c : chain cs (colour_at separate_of p) ≡ p ∷ [] = ap (chain cs) e ∙ single-chain n p l in
+      let a = separate_seat n p (omega arith) in
+      let e : colour_at (separate_of n) p ≡ p = ap (λ (s : Seat). s.colour.0) a in
+      let z : place_at (separate_of n) p ≡ 0 = ap (λ (s : Seat). s.place) a in
+      let c : chain cs (colour_at (separate_of n) p) ≡ p ∷ [] = ap (chain cs) e ∙ single-chain n p l in
       record {
         colour = omega (arith, e);
         place = rw (c, z) (omega arith);
         node = rw (c, z);
       }
 
-  separate_has : (k i : ℕ) → k < n → i < length (chain cs k) → Has n separate_of k i (get_or (chain cs k) i 0)
+  separate_has : (k i : ℕ) → k < n → i < length (chain cs k) → Has n (separate_of n) k i (get_or (chain cs k) i 0)
   separate_has k i l h =
       let c : chain cs k ≡ k ∷ [] = single-chain n k l in
       let z : i ≡ 0 = omega (arith, h, ap (λ (x : List ℕ). length x) c) in
       let r : get_or (chain cs k) i 0 ≡ k = rw (c, z) in
-      let a = separate_seat k (omega arith) in
+      let a = separate_seat n k (omega arith) in
       record {
         node = omega (arith, r);
-        colour = ap (colour_at separate_of) r ∙ ap (λ (s : Seat). s.colour.0) a;
-        place = ap (place_at separate_of) r ∙ ap (λ (s : Seat). s.place) a ∙ sym z;
+        colour = ap (colour_at (separate_of n)) r ∙ ap (λ (s : Seat). s.colour.0) a;
+        place = ap (place_at (separate_of n)) r ∙ ap (λ (s : Seat). s.place) a ∙ sym z;
       }
 
-  pub stand-first : Stand n (single 0 n) separate_of
+  pub stand-first : Stand n (single 0 n) (separate_of n)
   stand-first =
       record {
+        count = refl;
         tops =
             record {
               size = single-long 0 n;
               few = few;
               long = length-tabulate (top 1) 0 48;
-              each = λ k l. separate_chain k (omega arith) ∙ sym (ap top_of (single-chain n k l));
+              each = λ k l. separate_chain n k (omega arith) ∙ sym (ap top_of (single-chain n k l));
             };
         long = length-tabulate (λ (k : ℕ). seat k 0) 0 48;
         at = separate_at;
@@ -161,7 +162,7 @@ module _ (cs : Chains) (x y : ℕ) (l : x < length cs) (k : y < length cs) (ne :
 
 module _ (n : ℕ) (cs : Chains) (h : Held) (s : Stand n cs h) (x y : ℕ) (l : x < n) (k : y < n) (ne : x ≡ y → ⊥) (some : 0 < length (chain cs x)) where
   abbrev h' : Held
-  h' = joined_of h n x y
+  h' = joined_of h x y
 
   abbrev ds : Chains
   ds = join cs x y
@@ -183,7 +184,7 @@ module _ (n : ℕ) (cs : Chains) (h : Held) (s : Stand n cs h) (x y : ℕ) (l : 
 
   -- node p sat in the chain y, or in another
   new-seat : (p : ℕ) → p < n → seat_at h' p ≡ moved x y (top_at h.chains x).length (seat_at h p)
-  new-seat p i = mapped_at (moved x y (top_at h.chains x).length) h.seats n (omega (arith, s.long, s.tops.few)) p (seat 0 0) i
+  new-seat p i = mapped_at (moved x y (top_at h.chains x).length) h.seats h.n (omega (arith, s.long, s.tops.few, s.count)) p (seat 0 0) (omega (arith, s.count))
 
   seat-y : (p : ℕ) → p < n → colour_at h p ≡ y → seat_at h' p ≡ seat x (place_at h p + length (chain cs x))
   seat-y p i e = new-seat p i ∙ rw (eq-eqb (colour_at h p) y e, s.tops.each x l)
@@ -294,6 +295,7 @@ module _ (n : ℕ) (cs : Chains) (h : Held) (s : Stand n cs h) (x y : ℕ) (l : 
   pub stand-join : Stand n ds h'
   stand-join =
       record {
+        count = s.count;
         tops =
             record {
               size = length-join cs x y ∙ s.tops.size;
@@ -301,7 +303,7 @@ module _ (n : ℕ) (cs : Chains) (h : Held) (s : Stand n cs h) (x y : ℕ) (l : 
               long = length-set (set h.chains x both) y no_top ∙ length-set h.chains x both ∙ s.tops.long;
               each = joined-tops;
             };
-        long = length-mapped (moved x y (top_at h.chains x).length) h.seats n (omega (arith, s.long, s.tops.few)) ∙ s.long;
+        long = length-mapped (moved x y (top_at h.chains x).length) h.seats h.n (omega (arith, s.long, s.tops.few, s.count)) ∙ s.long;
         at = joined_at;
         has = joined-has;
       }
@@ -310,10 +312,10 @@ pick-stand : (n : ℕ) (cs ds : Chains) (h g : Held) (b : Bool) → Stand n cs h
 pick-stand n cs ds h g true s f = s
 pick-stand n cs ds h g false s f = f refl
 
-pub stand-link : (n : ℕ) (cs : Chains) (h : Held) (p q : ℕ) → Stand n cs h → p < n → q < n → Stand n (link cs p q) (pair_of h n p q)
+pub stand-link : (n : ℕ) (cs : Chains) (h : Held) (p q : ℕ) → Stand n cs h → p < n → q < n → Stand n (link cs p q) (pair_of h p q)
 stand-link n cs h p q s i j =
     let x = colour_at h p in
     let y = colour_at h q in
     rw (colour-is n cs h s p i, colour-is n cs h s q j)
-    (pick-stand n cs (join cs x y) h (joined_of h n x y) (eqb x y) s
+    (pick-stand n cs (join cs x y) h (joined_of h x y) (eqb x y) s
     (λ e. stand-join n cs h s x y (s.at p i).colour (s.at q j).colour (eqb-false x y e) (omega (arith, (s.at p i).place))))

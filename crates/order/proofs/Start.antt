@@ -14,16 +14,17 @@ use lib.Seq.{get_or-set_same, get_or-set_other, take-suc, take-length}
 use borrow.Author.Tests.{eq-eqb, ne_eqb, eqb-true, ltb-true, ltb-false}
 use Rattle.laws.proofs.Tests.{same?}
 use Rattle.graph.specs.Shape.{Shape}
+use Rattle.order.specs.declared.codes.Pair.{Pair}
 use Rattle.order.specs.Against.{Against, against, all}
 use Rattle.order.specs.Weights.{Table, count, counted, first}
-use Rattle.order.specs.code.Sums.{pair_at, at, sums_of, raised, count_of, tallied, code_of, first_in, second_in, Coded, Codes, Hold}
+use Rattle.order.specs.code.Sums.{pair_at, at, sums_of, raised, count_of, tallied, code_of, no_pair, Coded, Codes, Hold}
 use Rattle.order.proofs.Nodes.{Both, both-all}
 use Rattle.order.proofs.Triangle.{pair_same, pair-below}
 use Rattle.order.proofs.Tables.{and_left, and_right, value_of}
 use Rattle.order.proofs.Rounds.{value-count}
 use Rattle.order.proofs.Hold.{packed, packed-reads, packs}
 
-pub tallied-next : (cs l : List ℕ) (k : ℕ) → tallied cs l (k + 1) ≡ count_of (tallied cs l k) (first_in (get_or cs k 0)) (second_in (get_or cs k 0))
+pub tallied-next : (cs : List Pair) (l : List ℕ) (k : ℕ) → tallied cs l (k + 1) ≡ count_of (tallied cs l k) (get_or cs k no_pair).first (get_or cs k no_pair).second
 unfolding tallied
 tallied-next cs l k = ap (tallied cs l) (add-one k)
 
@@ -43,11 +44,11 @@ count_most l p q n j h = go (ltb p q) (ltb q p)
     go false true = set-most l (pair_at q p) (at l q p + 65536) (n + 65536) j (omega (arith, h (pair_at q p))) (omega (arith, h j))
     go false false = omega (arith, h j)
 
-pub tallied-most : (cs l : List ℕ) → ((i : ℕ) → get_or l i 0 ≡ 0) → (k j : ℕ) → get_or (tallied cs l k) j 0 ≤ 65536 * k
+pub tallied-most : (cs : List Pair) (l : List ℕ) → ((i : ℕ) → get_or l i 0 ≡ 0) → (k j : ℕ) → get_or (tallied cs l k) j 0 ≤ 65536 * k
 unfolding tallied
 tallied-most cs l z zero j = omega (arith, z j)
 tallied-most cs l z (suc k) j =
-    omega (arith, count_most (tallied cs l k) (first_in (get_or cs k 0)) (second_in (get_or cs k 0)) (65536 * k) j (tallied-most cs l z k))
+    omega (arith, count_most (tallied cs l k) (get_or cs k no_pair).first (get_or cs k no_pair).second (65536 * k) j (tallied-most cs l z k))
 
 -- ---- one code
 abbrev up : ℕ → ℕ → ℕ → ℕ → Bool
@@ -101,10 +102,10 @@ count_long l p q = go (ltb p q) (ltb q p)
     go false true = length-set l (pair_at q p) (at l q p + 65536)
     go false false = refl
 
-pub tallied-long : (xs l : List ℕ) (k : ℕ) → length (tallied xs l k) ≡ length l
+pub tallied-long : (xs : List Pair) (l : List ℕ) (k : ℕ) → length (tallied xs l k) ≡ length l
 unfolding tallied
 tallied-long xs l zero = refl
-tallied-long xs l (suc k) = count_long (tallied xs l k) (first_in (get_or xs k 0)) (second_in (get_or xs k 0)) ∙ tallied-long xs l k
+tallied-long xs l (suc k) = count_long (tallied xs l k) (get_or xs k no_pair).first (get_or xs k no_pair).second ∙ tallied-long xs l k
 
 -- ---- the codes of a graph
 counted-end : (cs : List Against) (c : Against) (t : Table) → counted t (cs ++ (c ∷ [])) ≡ count (counted t cs) c
@@ -119,28 +120,22 @@ both_at n [] k h b = absurd (not-suc-le-zero h)
 both_at n (c ∷ cs) zero h b = (b.0, b.1)
 both_at n (c ∷ cs) (suc k) h b = both_at n cs k (le_of_suc-le-suc h) b.2
 
-module _ (g : Shape) (xs : List ℕ) (d : Codes g xs) where
+module _ (g : Shape) (xs : List Pair) (d : Codes g xs) where
   pub codes-size : length (all g) ≡ length xs
-  codes-size = sym (ap (λ (v : List ℕ). length v) d.same ∙ length-map (all g) code_of)
+  codes-size = sym (ap (λ (v : List Pair). length v) d.same ∙ length-map (all g) code_of)
 
   pub nodes-at : (k : ℕ) → k < length xs → ((get_or (all g) k none).first < length g) × ((get_or (all g) k none).second < length g)
   nodes-at k h = both_at (length g) (all g) k (omega (arith, codes-size)) (both-all g d.aimed)
 
-  code_at : (k : ℕ) → k < length xs → get_or xs k 0 ≡ code_of (get_or (all g) k none)
-  code_at k h = ap (λ (v : List ℕ). get_or v k 0) d.same ∙ get_or-map code_of (all g) k none
-
-  pub first-at : (k : ℕ) → k < length xs → first_in (get_or xs k 0) ≡ (get_or (all g) k none).first
-  first-at k h = let b = nodes-at k h in rw (code_at k h) (omega (arith, b.1, d.few))
-
-  pub second_at : (k : ℕ) → k < length xs → second_in (get_or xs k 0) ≡ (get_or (all g) k none).second
-  second_at k h = let b = nodes-at k h in rw (code_at k h) (omega (arith, b.1, d.few))
+  pub code_at : (k : ℕ) → get_or xs k no_pair ≡ code_of (get_or (all g) k none)
+  code_at k = ap (λ (v : List Pair). get_or v k no_pair) d.same ∙ get_or-map code_of (all g) k none
 
   pub coded : Coded 48 xs
   coded =
       record {
         few = omega arith;
-        first = λ k h. let b = nodes-at k h in rw (first-at k h) (omega (arith, b.0, d.few));
-        second = λ k h. let b = nodes-at k h in rw (second_at k h) (omega (arith, b.1, d.few));
+        first = λ k h. let b = nodes-at k h in rw (code_at k) (omega (arith, b.0, d.few));
+        second = λ k h. let b = nodes-at k h in rw (code_at k) (omega (arith, b.1, d.few));
       }
 
   module _ (l : List ℕ) (long : length l ≡ 1128) (zeros : (i : ℕ) → get_or l i 0 ≡ 0) (a b : ℕ) (i : a < b) (j : b < 48) where
@@ -150,8 +145,8 @@ module _ (g : Shape) (xs : List ℕ) (d : Codes g xs) where
     tallied-at (suc k) h =
         let e = get_or (all g) k none in
         let v = nodes-at k h in
-        count_at (tallied xs l k) (tallied-long xs l k ∙ long) (first_in (get_or xs k 0)) (second_in (get_or xs k 0)) a b (coded.first k h) (coded.second k h) i j
-        ∙ rw (first-at k h, second_at k h, tallied-at k (omega arith))
+        count_at (tallied xs l k) (tallied-long xs l k ∙ long) (get_or xs k no_pair).first (get_or xs k no_pair).second a b (coded.first k h) (coded.second k h) i j
+        ∙ rw (code_at k, tallied-at k (omega arith))
         (sym (ap (λ (cs : List Against). value_of packed a b (counted [] cs)) (take-suc (all g) k none (omega (arith, codes-size)))
         ∙ ap (value_of packed a b) (counted-end (take k (all g)) e [])
         ∙ value-count packed sums_of packed-reads a b (counted [] (take k (all g))) e i))

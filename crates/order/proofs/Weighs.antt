@@ -6,6 +6,7 @@ use mathlib.Core.Path.{◌≡◌, refl, subst, sym, ◌∙◌, ap}
 use mathlib.Core.List.{List}
 use lib.ListN.{length, get_or, replicate, length-replicate}
 use Rattle.graph.specs.Shape.{Shape}
+use Rattle.order.specs.declared.codes.Pair.{Pair}
 use Rattle.order.specs.Against.{all}
 use Rattle.order.specs.Weights.{before_of, after_of, round, first, weights}
 use Rattle.order.specs.declared.weights.Round.TheVariants.{First, Second}
@@ -20,7 +21,7 @@ zeros-at zero i = refl
 zeros-at (suc n) zero = refl
 zeros-at (suc n) (suc i) = zeros-at n i
 
-module _ (g : Shape) (xs : List ℕ) (d : Codes g xs) where
+module _ (g : Shape) (xs : List Pair) (d : Codes g xs) where
   room : length (all g) ≤ 352
   room = omega (arith, codes-size g xs d, d.room)
 

@@ -1,4 +1,4 @@
-// The list of one node against another, each as one number, the code: the first node times 64 and the second.
+// The codes: one node against another, list by list and node by node.
 ghost use Rattle.std.specs.Prelude.{◌≡◌, ◌+◌, ◌-◌, ◌*◌, ◌≤◌, length, map, take};
 ghost use Rattle.graph.specs.Ends.{targets_of, ends_of, incidents_in, shape_from, Linked};
 ghost use Rattle.order.specs.Against.{against, neighbours, reversed_if};
@@ -22,22 +22,32 @@ fn targets_of(leads: &[Lead], p: u8) -> Table<u8, 88>
     to
 }
 
-// The code of p against q.
-fn code(p: u8, q: u8) -> u16
-    ensures { result ≡ code_of (against p q) }
-{
-    (p as u16) * 64 + (q as u16)
+// A code, one node against another: the first is to stand before the second.
+#[derive(Clone, Copy, Default)]
+pub struct Pair {
+    pub first: u8,
+    pub second: u8,
 }
 
-// The code of p against q, or reversed.
-fn pair_code(reversed: bool, p: u8, q: u8) -> u16
+// p against q.
+fn code(p: u8, q: u8) -> Pair
+    ensures { result ≡ code_of (against p q) }
+{
+    Pair {
+        first: p,
+        second: q,
+    }
+}
+
+// p against q, or reversed.
+fn pair_code(reversed: bool, p: u8, q: u8) -> Pair
     ensures { result ≡ code_of (reversed_if reversed p q) }
 {
     if reversed { code(q, p) } else { code(p, q) }
 }
 
 // Each target against the next.
-fn push_neighbours(to: &[u8], codes: &mut Table<u16, 352>)
+fn push_neighbours(to: &[u8], codes: &mut Table<Pair, 352>)
     requires { codes.old.count + (length to.now - 1) ≤ 352 }
     ensures { Pushed codes.old codes.new (map code_of (neighbours to.now)) }
 {
@@ -47,7 +57,7 @@ fn push_neighbours(to: &[u8], codes: &mut Table<u16, 352>)
 }
 
 // Node p against each target, reversed from the target turn on.
-fn push_pairs(to: &[u8], p: u8, turn: usize, codes: &mut Table<u16, 352>)
+fn push_pairs(to: &[u8], p: u8, turn: usize, codes: &mut Table<Pair, 352>)
     requires { codes.old.count + length to.now ≤ 352 }
     ensures { Pushed codes.old codes.new (map code_of (with_from p turn 0 to.now)) }
 {
@@ -57,7 +67,7 @@ fn push_pairs(to: &[u8], p: u8, turn: usize, codes: &mut Table<u16, 352>)
 }
 
 // The neighbours in a list of node p, and p against each of it, reversed from half the list on, or from one later.
-fn push_list(leads: &[Lead], p: u8, later: usize, codes: &mut Table<u16, 352>)
+fn push_list(leads: &[Lead], p: u8, later: usize, codes: &mut Table<Pair, 352>)
     requires few { (length leads.now ≤ 88) × (later ≤ 1) }
     requires room { codes.old.count + 2 * length (targets_of p leads.now) ≤ 352 }
     ensures { Pushed codes.old codes.new (list_codes later p (targets_of p leads.now)) }
@@ -70,7 +80,7 @@ fn push_list(leads: &[Lead], p: u8, later: usize, codes: &mut Table<u16, 352>)
 
 // The sources and the sinks of n nodes, whose leads go from one of these nodes to one.
 #[derive(Clone, Copy)]
-pub struct Nodes<'a> {
+pub struct LinkedEnds<'a> {
     pub sources: &'a Ends,
     pub sinks: &'a Ends,
     pub n: usize,
@@ -78,9 +88,9 @@ pub struct Nodes<'a> {
     ghost sinks_linked: { Linked n sinks.now },
 }
 
-impl Nodes<'_> {
+impl LinkedEnds<'_> {
     // All of node p: its sources are reversed past half the list, its sinks from half on.
-    fn push_node(&self, p: u8, codes: &mut Table<u16, 352>)
+    fn push_node(&self, p: u8, codes: &mut Table<Pair, 352>)
         requires { codes.old.count + 2 * length (ends_of self.now.sources.now p) + 2 * length (ends_of self.now.sinks.now p) ≤ 352 }
         ensures { Pushed codes.old codes.new (node_codes p (incidents_in self.now.sources.now self.now.sinks.now p)) }
     {
@@ -89,7 +99,7 @@ impl Nodes<'_> {
     }
 
     // The codes of all nodes.
-    pub fn push_all(&self, codes: &mut Table<u16, 352>)
+    pub fn push_all(&self, codes: &mut Table<Pair, 352>)
         requires { codes.old.count ≡ 0 }
         ensures { Codes (shape_from self.now.n self.now.sources.now self.now.sinks.now) (take codes.new.count codes.new.items) }
     {

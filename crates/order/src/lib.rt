@@ -9,7 +9,7 @@ ghost use Rattle.order.specs.Chains.{columns};
 ghost use Rattle.order.specs.Ordered.{columns_held, IsOrder, linked_of, IsColumns};
 
 use chart::Setting;
-use codes::Nodes;
+use codes::LinkedEnds;
 use columns::first_of;
 use graph::{Ends, Lead, Tables};
 use refusals::Refusal;
@@ -36,7 +36,7 @@ fn drawn(g: Tables) -> Columns
 {
     let sources = graph::ends_of(g.sources);
     let sinks = graph::ends_of(g.sinks);
-    first_of(&Nodes {
+    first_of(&LinkedEnds {
         sources: &sources,
         sinks: &sinks,
         n: g.n,
@@ -68,5 +68,5 @@ pub fn order_of(sources: &Ends, sinks: &Ends, n: usize) -> Option<Columns>
     if !linked(sources, n) || !linked(sinks, n) {
         return None;
     }
-    Some(first_of(&Nodes { sources, sinks, n }))
+    Some(first_of(&LinkedEnds { sources, sinks, n }))
 }

@@ -2,6 +2,7 @@
 ghost use Rattle.std.specs.Prelude.{◌≡◌, ℕ, ◌*◌, ◌<◌, ◌≤◌, get_or, length, replicate};
 ghost use Rattle.order.specs.code.Sums.{count_of, tallied, makes, takes, Over, Row, Rows, OverFits, RowFits, RoundFits, Coded, Charted, Weighed};
 
+use crate::codes::Pair;
 use crate::sums::{pair_at, row_at};
 
 // p against q: one more before or after for their pair.
@@ -18,14 +19,14 @@ fn against(sums: &mut [u32; 1128], p: u32, q: u32)
 }
 
 // The sums before the rounds, of the codes.
-fn tally(codes: &[u16], sums: &mut [u32; 1128])
+fn tally(codes: &[Pair], sums: &mut [u32; 1128])
     requires room { length codes.now ≤ 352 }
     requires coded { Coded 48 codes.now }
     requires by_index { (i : ℕ) → get_or sums.old i 0 ≡ 0 }
     ensures { sums.new ≡ tallied codes.now sums.old (length codes.now) }
 {
     for &code in codes {
-        against(sums, (code / 64) as u32, (code % 64) as u32);
+        against(sums, code.first as u32, code.second as u32);
     }
 }
 
@@ -92,7 +93,7 @@ impl Round {
 }
 
 // The pair sums after both rounds.
-pub fn pair_weights(codes: &[u16], n: usize, sums: &mut [u32; 1128])
+pub fn pair_weights(codes: &[Pair], n: usize, sums: &mut [u32; 1128])
     requires charted { Charted codes.now n }
     requires sums_value { sums.old ≡ replicate 1128 0 }
     ensures { Weighed codes.now n sums.new }

@@ -23,9 +23,8 @@ use Rattle.grid.specs.Labelled.{Labelled, ready, refusal, labelled, label_place_
 use Rattle.graph.proofs.Gathers.{Bytes}
 use Rattle.grid.proofs.LabelPlaces.{Lies, labelled_lies}
 use denote.Ref.{Bor}
-use Rattle.path.specs.declared.PlacedLabel.{PlacedLabel}
 use Rattle.path.specs.declared.LabelSpan.{LabelSpan}
-use Rattle.path.specs.Label.{Place, chart, table, part_at, Within, text_at, IsAt, stand_in, stand_ins_to, stand_ins, tabled, placed_in, place_of, place_in, LabelText, IsLabelPart, span_of, span_in, label_span_of, IsLabelSpan}
+use Rattle.path.specs.Label.{Place, chart, table, part_at, Within, text_at, IsAt, stand_in, stand_ins_to, stand_ins, tabled, place_of, place_in, LabelText, IsLabelPart, span_of, span_in, label_span_of, IsLabelSpan}
 use Rattle.path.proofs.Labels.{stand-ins-long, stand_in_reads, stand_in_within, stand_in_texted, stand_in_counted}
 
 -- ---- the table
@@ -87,8 +86,8 @@ refused-text : (s t : List ℕ) (why : Refusal) → LabelText s t (refusal why)
 refused-text s t why = record { within = (omega arith, omega arith); texted = empty; wide = λ l e. let z : ◌≡◌ {A = ℕ} 0 1 = cc in absurd (omega arith); none = λ u e. refl }
 
 -- the label as it is handed out
-wide-by : (p : LabelPlace) (l : PlacedLabel) (b : List ℕ) → placed_in (ready p) ≡ Ok l → p.width ≡ character_width p.size * characters_in b → l.width ≡ character_width l.size * characters_in b
-wide-by p l b e f = let z : record { x = p.x; y = p.y; size = p.size; width = p.width } ≡ l = cc in subst (λ (u : PlacedLabel). u.width ≡ character_width u.size * characters_in b) z f
+wide-by : (p l : LabelPlace) (b : List ℕ) → label_place_of (ready p) ≡ Ok l → p.width ≡ character_width p.size * characters_in b → l.width ≡ character_width l.size * characters_in b
+wide-by p l b e f = let z : p ≡ l = cc in subst (λ (u : LabelPlace). u.width ≡ character_width u.size * characters_in b) z f
 
 -- one of the fixed texts
 fixed_text : (s t : List ℕ) (p : LabelPlace) → Lies s p → same t stand_ins ≡ true → (q : ℕ) → p.text ≡ InTable q → LabelText s t (ready p)

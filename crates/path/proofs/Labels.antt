@@ -12,6 +12,7 @@ use lib.Dec.{eqb, leb, ltb}
 use lib.ListN.{length, get_or, take, drop, length-append}
 use lib.Seq.{take-length, take-add, take-append_seam, drop-append_seam, length-sets}
 use Rattle.laws.specs.Bytes.{ascii, all_of, same}
+use Rattle.std.specs.List.{list_all, enumerate_from}
 use Rattle.laws.specs.Lists.{tabulate}
 use Rattle.laws.proofs.Lists.{one_more, same_true, same_self, same_not, right-at, take_sets}
 use Rattle.chart.specs.Chart.{is_text, byte_c2}
@@ -197,17 +198,16 @@ module _ (j : ℕ) (s : Range ℕ) (e : s ≡ stand_in_span j) where
   span-within h = omega (arith, span-end, stand_in_within j h)
 
 -- ---- compared byte by byte
-whole_same : (xs ys : List ℕ) (i : ℕ) → length xs ≡ i → length ys ≡ i → take i xs ≡ take i ys → true ≡ same xs ys
-whole_same xs ys i h k e =
-    let z : xs ≡ ys = sym (take-length xs) ∙ ap (λ (n : ℕ). take n xs) h ∙ e ∙ ap (λ (n : ℕ). take n ys) (sym k) ∙ take-length ys in
-    sym (ap (same xs) (sym z) ∙ same_self xs)
-
-module _ (part : List ℕ) (j : ℕ) where
-  pub text_not : (i : ℕ) → (get_or part i 0 ≡ get_or (stand_in j) i 0 → ⊥) → false ≡ same part (stand_in j)
-  text_not i n = sym (same_not part (stand_in j) (λ e. n (ap (λ (z : List ℕ). get_or z i 0) e)))
-
-  pub text_same : length part ≡ length (stand_in j) → take (length part) part ≡ take (length part) (stand_in j) → true ≡ same part (stand_in j)
-  text_same long e = whole_same part (stand_in j) (length part) refl (sym long) e
+-- each byte with its index, and the byte there
+pub all-enumerated : (ys xs t : List ℕ) (n : ℕ) → length xs ≡ length ys → ((i : ℕ) → get_or t (n + i) 0 ≡ get_or ys i 0) → list_all (λ (p : ℕ × ℕ). eqb p.1 (get_or t p.0 0)) (enumerate_from n xs) ≡ same xs ys
+all-enumerated [] [] t n e f = refl
+all-enumerated [] (x ∷ xs) t n e f = absurd (omega (arith, e))
+all-enumerated (y ∷ ys) [] t n e f = absurd (omega (arith, e))
+all-enumerated (y ∷ ys) (x ∷ xs) t n e f =
+    let z : n + 0 ≡ n = omega arith in
+    let a : get_or t n 0 ≡ y = ap (λ (k : ℕ). get_or t k 0) (sym z) ∙ f 0 in
+    let r = all-enumerated ys xs t (n + 1) (omega (arith, e)) (λ i. let w : n + 1 + i ≡ n + suc i = omega arith in ap (λ (k : ℕ). get_or t k 0) w ∙ f (suc i)) in
+    rw a (ap (λ (b : Bool). eqb x y && b) r)
 
 -- ---- compared text by text
 module _ (t : List ℕ) (long : length t ≡ 3293) where

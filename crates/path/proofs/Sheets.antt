@@ -1,15 +1,17 @@
 -- A sound sheet's segments: by number, how many, in the profile; and its text, segment by segment. Assumes nothing.
 use mathlib.Core.Path.{◌≡◌, refl, sym, ap, ◌∙◌, subst}
 use mathlib.Core.Bool.{Bool, true, false, cond, ◌&&◌}
-use mathlib.Core.List.{List, [], ◌∷◌, ◌++◌, append-nil}
+use mathlib.Core.List.{List, [], ◌∷◌, ◌++◌, append-nil, map}
 use Prim.Native.Nat.{ℕ, zero, suc, ◌+◌, ◌-◌, ◌*◌, ◌/◌, ◌%◌, ◌≤◌, ◌<◌}
-use native.Mathlib.Nat.{mul-zero, mul-suc}
+use native.Mathlib.Nat.{zero-add, mul-zero, mul-suc}
 use native.Mathlib.Numerals.{add-one}
 use native.Mathlib.Omega.{arith}
 use borrow.Author.Tests.{leb-true, ltb-true, ltb-false}
 use lib.Dec.{leb, ltb}
 use lib.ListN.{length, get_or, take, drop, length-append, get_or-append, take-append-drop}
-use lib.Seq.{take-suc, length-take-le, get_or-append-add, get_or-take}
+use lib.Seq.{take-suc, take-length, length-take-le, get_or-append-add, get_or-take}
+use Rattle.std.specs.List.{sum, range_with_len}
+use Rattle.std.proofs.lemmas.List.FromFn.{sum_by-map-range_with_len_more}
 use Rattle.laws.specs.Bytes.{all_of}
 use Rattle.laws.proofs.Lists.{test_at}
 use Rattle.grid.specs.declared.BoxRecord.{BoxRecord}
@@ -259,6 +261,23 @@ text-to ds k h = ap (λ (z : ℕ). text_of (take z ds)) (add-one k) ∙ text_suc
 
 pub length_to : (ds : List Drawn) (k : ℕ) → k < length ds → length (text_of (take (k + 1) ds)) ≡ length (text_of (take k ds)) + length (next_text k (get_or ds k (Move 0 0)))
 length_to ds k h = ap length (text-to ds k h) ∙ length-append (text_of (take k ds)) (next_text k (get_or ds k (Move 0 0)))
+
+-- how long segment k's text is, with the space before it, if one stands before it
+abbrev pub next_length : List Drawn → ℕ → ℕ
+next_length ds k = length (next_text k (get_or ds k (Move 0 0)))
+
+lengths_to : (ds : List Drawn) (k : ℕ) → k ≤ length ds → sum (map (next_length ds) (range_with_len 0 k)) ≡ length (text_of (take k ds))
+unfolding text_of
+lengths_to ds zero h = refl
+lengths_to ds (suc k) h =
+    ap (λ (z : ℕ). sum (map (next_length ds) (range_with_len 0 z))) (sym (add-one k))
+    ∙ sum_by-map-range_with_len_more (λ (n : ℕ). n) (next_length ds) 0 k k (zero-add k)
+    ∙ ap (λ (n : ℕ). n + next_length ds k) (lengths_to ds k (omega (arith, h)))
+    ∙ sym (length_to ds k (omega (arith, h)))
+    ∙ ap (λ (z : ℕ). length (text_of (take z ds))) (add-one k)
+
+pub lengths-summed : (ds : List Drawn) (n : ℕ) → n ≡ length ds → sum (map (next_length ds) (range_with_len 0 n)) ≡ length (text_of ds)
+lengths-summed ds n e = lengths_to ds n (omega (arith, e)) ∙ ap (λ (z : ℕ). length (text_of (take z ds))) e ∙ ap (λ (l : List Drawn). length (text_of l)) (take-length ds)
 
 -- what comes first is no longer than the whole
 grows : (xs ys : List Drawn) → length (text_of xs) ≤ length (text_of (xs ++ ys))

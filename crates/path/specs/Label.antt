@@ -11,9 +11,9 @@ use Rattle.chart.specs.Text.{Texted, characters_in, ending}
 use Rattle.grid.specs.declared.TextPlace.{TextPlace}
 use Rattle.grid.specs.declared.TextPlace.TheVariants.{InChart, InTable}
 use Rattle.grid.specs.Labels.{character_width}
-use Rattle.grid.specs.Labelled.{Labelled, ready, refusal}
+use Rattle.grid.specs.Labelled.{Labelled, ready, refusal, label_place_of}
 use Rattle.std.specs.declared.ops.Range.{Range}
-use Rattle.path.specs.declared.PlacedLabel.{PlacedLabel}
+use Rattle.grid.specs.declared.LabelPlace.{LabelPlace}
 use Rattle.path.specs.declared.LabelSpan.{LabelSpan}
 use Rattle.path.specs.Number.{digits}
 
@@ -77,14 +77,6 @@ abbrev pub tabled : List ℕ → Labelled → Labelled
 tabled t (ready p) = cond (same t stand_ins) (ready p) (refusal NotThere)
 tabled t (refusal why) = refusal why
 
--- 'its place, size and width, or the refusal'
-abbrev pub placed_in : Labelled → Result PlacedLabel Refusal
-placed_in (ready p) = Ok (record { x = p.x; y = p.y; size = p.size; width = p.width })
-placed_in (refusal why) = Err why
-
-abbrev pub placed_label_of : List ℕ → Labelled → Result PlacedLabel Refusal
-placed_label_of t l = placed_in (tabled t l)
-
 -- where a label's text stands: in the chart s so many characters, in the table its fixed text
 abbrev pub place_of : List ℕ → TextPlace → Place
 place_of s (InChart at len) = chart at (ending len s at)
@@ -105,9 +97,9 @@ pub record LabelText (s t : List ℕ) (v : Labelled) : Type 0 where
   -- it is text bytes and degree signs, both bytes of each
   pub texted : Texted (text_at s t (place_in s v))
   -- 'The rule for widths moves from bytes to characters': a label is as wide as the part's characters
-  pub wide : (l : PlacedLabel) → placed_in v ≡ Ok l → l.width ≡ character_width l.size * characters_in (text_at s t (place_in s v))
+  pub wide : (l : LabelPlace) → label_place_of v ≡ Ok l → l.width ≡ character_width l.size * characters_in (text_at s t (place_in s v))
   -- refused, the part has no character
-  pub none : (why : Refusal) → placed_in v ≡ Err why → characters_in (text_at s t (place_in s v)) ≡ 0
+  pub none : (why : Refusal) → label_place_of v ≡ Err why → characters_in (text_at s t (place_in s v)) ≡ 0
 
 -- `label_part`, where the chart s and the table t are lent: the part itself
 pub record IsLabelPart (s t : Bor (List ℕ)) (l : Labelled) (r : Bor (List ℕ)) : Type 0 where

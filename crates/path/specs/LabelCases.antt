@@ -23,17 +23,17 @@ use Rattle.grid.specs.Columns.{first_moves, fold_from, average, columns}
 use Rattle.grid.specs.RenderNode.{drawn}
 use Rattle.grid.specs.RenderGrid.{sheet_of, sheet}
 use Rattle.grid.specs.Sheeted.{sheet_of_dag, sheeted}
-use Rattle.grid.specs.Labelled.{Labelled, labelled}
-use Rattle.path.specs.declared.PlacedLabel.{PlacedLabel}
+use Rattle.grid.specs.declared.LabelPlace.{LabelPlace}
+use Rattle.grid.specs.Labelled.{Labelled, labelled, label_place_of}
 use Rattle.path.specs.declared.LabelSpan.{LabelSpan}
 use Rattle.path.specs.Number.{digits}
-use Rattle.path.specs.Label.{Place, chart, table, text_at, stand_in, stand_ins_from, stand_ins, placed_label_of, label_part_of, label_span_of}
+use Rattle.path.specs.Label.{Place, chart, table, text_at, stand_in, stand_ins_from, stand_ins, tabled, label_part_of, label_span_of}
 
 abbrev refusal_of : Numbers → List ℕ
 refusal_of n = n.first ∷ n.second ∷ []
 
 -- 0 0, then place, size and width; or the refusal's two numbers
-abbrev numbers : Result PlacedLabel Refusal → List ℕ
+abbrev numbers : Result LabelPlace Refusal → List ℕ
 numbers (Ok l) = 0 ∷ 0 ∷ l.x ∷ l.y ∷ l.size ∷ l.width ∷ []
 numbers (Err why) = refusal_of (numbers_of why)
 
@@ -71,7 +71,7 @@ data Case : Type 0 where
 
 abbrev agree : List ℕ → List ℕ → Labelled → List ℕ → List ℕ → List ℕ → Bool
 agree s t l ns ps w =
-    same (numbers (placed_label_of t l)) ns
+    same (numbers (label_place_of (tabled t l))) ns
     && (same (spot (label_part_of s t l)) ps && (same (span_spot (label_span_of s t l)) ps && same (text_at s t (label_part_of s t l)) w))
 
 holds : Case → Bool

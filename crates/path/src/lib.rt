@@ -7,7 +7,7 @@ ghost use Rattle.path.specs.Reader.{read};
 ghost use Rattle.path.specs.Answers.{sheet_answer};
 ghost use Rattle.path.specs.Promises.{IsSegment, IsWritten, IsReading, IsCount, IsRewritten};
 ghost use Rattle.grid.specs.Labelled.{labelled, label_place_of};
-ghost use Rattle.path.specs.Label.{stand_ins, tabled, placed_label_of, IsLabelPart, IsLabelSpan};
+ghost use Rattle.path.specs.Label.{stand_ins, tabled, IsLabelPart, IsLabelSpan};
 
 use chart::Setting;
 use drawn::segment_of;
@@ -46,15 +46,6 @@ pub enum Segment {
     Line(Pen),
     Cubic(Pen, Pen, Pen),
     Close,
-}
-
-// A label's place, size and width.
-#[derive(Clone, Copy)]
-pub struct PlacedLabel {
-    pub x: u32,
-    pub y: u32,
-    pub size: u32,
-    pub width: u32,
 }
 
 // A label's text as a place: where it begins, in the chart or in the table, and how many bytes it has.
@@ -137,8 +128,8 @@ pub fn stand_ins() -> [u8; 3293]
     table
 }
 
-// Label i of box k of the chart's sheet at the origin x y, with a table lent beside the chart: 1 to 15.
-fn find_label(
+// Where label i of box k of the chart's sheet stands, its size, its width and where its text is, a table being lent beside the chart: 1 to 15.
+pub fn label_place(
     chart: &[u8],
     x: u32,
     y: u32,
@@ -154,27 +145,6 @@ fn find_label(
         return Err(Refusal::NotThere);
     }
     Ok(place)
-}
-
-// Where label i of box k of the chart's sheet stands, its size and its width: 1 to 15.
-pub fn label_place(
-    chart: &[u8],
-    x: u32,
-    y: u32,
-    setting: Setting,
-    table: &[u8],
-    k: usize,
-    i: usize,
-) -> Result<PlacedLabel, Refusal>
-    ensures { result ≡ placed_label_of table.now (labelled setting chart.now x y k i) }
-{
-    let place = find_label(chart, x, y, setting, table, k, i)?;
-    Ok(PlacedLabel {
-        x: place.x,
-        y: place.y,
-        size: place.size,
-        width: place.width,
-    })
 }
 
 // The text of that label, a part of the chart or of the table; refused, the empty one at the chart's start.
@@ -207,6 +177,6 @@ pub fn label_span(
 ) -> Result<LabelSpan, Refusal>
     ensures { IsLabelSpan chart.now table.now (labelled setting chart.now x y k i) result }
 {
-    let place = find_label(chart, x, y, setting, table, k, i)?;
+    let place = label_place(chart, x, y, setting, table, k, i)?;
     Ok(span_of(chart, place.text))
 }

@@ -110,11 +110,9 @@ impl Sound<'_> {
     pub fn text_len(&self) -> usize
         ensures { result ≡ length (text_of (drawn_of self.now.sheet.now)) }
     {
-        let mut e = 0;
-        for k in 0..self.size {
-            e += next_len(k, drawn_of(self.stroke_at(k)));
-        }
-        e
+        (0..self.size)
+            .map(|k| next_len(k, drawn_of(self.stroke_at(k))))
+            .sum()
     }
 
     // The text at the start of a buffer that it fits.

@@ -83,12 +83,7 @@ impl StandIn {
         requires { length part.now ≡ length (stand_in self.number) }
         ensures { result ≡ same part.now (stand_in self.number) }
     {
-        for (i, b) in part.iter().enumerate() {
-            if *b != self.byte(i) {
-                return false;
-            }
-        }
-        true
+        part.iter().enumerate().all(|(i, b)| *b == self.byte(i))
     }
 
     // Where it stands in the table.

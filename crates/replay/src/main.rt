@@ -10,9 +10,9 @@ struct Replay;
 
 impl Program for Replay {
     fn print<W: Write>(out: &mut W, line: &[u8]) -> io::Result<()> {
-        let mut chart = [0u8; 8192];
-        let n = lines::decode(lines::digits(line), &mut chart);
-        listings::print_listing(out, &chart[..n], lines::setting_of(line))?;
+        let mut room = [0u8; 8192];
+        let chart = lines::chart_of(lines::digits(line), &mut room);
+        listings::print_listing(out, chart, lines::setting_of(line))?;
         writeln!(out)
     }
 }

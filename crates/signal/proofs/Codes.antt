@@ -5,13 +5,13 @@ use native.Mathlib.Omega.{arith}
 use native.Mathlib.Numerals.{add-one}
 use mathlib.Core.Path.{◌≡◌, refl, ap, sym, ◌∙◌}
 use mathlib.Core.Logic.{◌⊎◌, inl, inr}
-use mathlib.Core.Bool.{Bool, true, false, cond, ◌&&◌, ◌||◌}
+use denote.Ref.{Bor}
+use mathlib.Core.Bool.{Bool, true, false, cond, not, ◌&&◌, ◌||◌}
 use mathlib.Core.List.{List, [], ◌∷◌, ◌++◌, append_assoc, reverse, reverse-append}
 use lib.Dec.{eqb, ltb}
-use lib.ListN.{length, get_or, take, drop}
-use lib.Seq.{drop-cons}
+use lib.ListN.{length, take}
 use borrow.Author.Tests.{eq-eqb, ne_eqb, lt-ltb, le-ltb}
-use Rattle.std.specs.Prelude.{Option, Some, None}
+use Rattle.std.specs.Prelude.{Option, Some, None, IsSomeAnd, MatchOption}
 use Rattle.std.specs.List.{list_any, find, range_with_len}
 use Rattle.std.specs.Option.{is_none, unwrap_or, option_map}
 use Rattle.std.proofs.lemmas.Iterator.Adapters.{option_map_id}
@@ -26,7 +26,7 @@ use Rattle.tables.specs.Tables.{pushed_if}
 use Rattle.walks.specs.Walks.{up_to, walk}
 use Rattle.walks.proofs.Few.{has-append}
 use Rattle.graph.specs.declared.Lead.{Lead}
-use Rattle.graph.specs.Ends.{no_lead, targets_of}
+use Rattle.graph.specs.Ends.{targets_of}
 use Rattle.signal.specs.Signal.{Sources, is_left, free, lowest, put, listed, first_out, behind, back, back_from, signalled_by}
 use Rattle.std.specs.Prelude.{Err}
 use Rattle.signal.specs.declared.NoOrder.TheVariants.{Cycle}
@@ -65,19 +65,22 @@ lowest_or test n = go (less? (lowest n test 0) n)
     go (inl h) = rw (lt-ltb (lowest n test 0) n h)
     go (inr h) = let w = (is_lowest test n 0).within in rw (le-ltb (lowest n test 0) n h) (omega arith)
 
--- ---- the leads from number k on
-module _ (done : List ℕ) (p : ℕ) (es : List Lead) (k : ℕ) (h : k < length es) where
-  abbrev lead : Lead
-  lead = get_or es k no_lead
+-- the first of the leads of p whose target is not listed
+pub found-out : (done : List ℕ) (p : ℕ) (es : List Lead) → option_map (λ (e : Lead). e.to) (find (λ e. eqb e.owner p && not (list_any (λ y. eqb y e.to) done)) es) ≡ out_of done (targets_of p es)
+found-out done p [] = refl
+found-out done p (x ∷ xs) = go (eqb x.owner p) (list_any (λ y. eqb y x.to) done) (sym (has-any x.to done)) (found-out done p xs)
+  where
+    go : (b h : Bool) → has x.to done ≡ h → option_map (λ (e : Lead). e.to) (find (λ e. eqb e.owner p && not (list_any (λ y. eqb y e.to) done)) xs) ≡ out_of done (targets_of p xs)
+        → option_map (λ (e : Lead). e.to) (cond (b && not h) (Some x) (find (λ e. eqb e.owner p && not (list_any (λ y. eqb y e.to) done)) xs)) ≡ out_of done (keep b x.to (targets_of p xs))
+    go false h e i = i
+    go true true e i = rw (e, i)
+    go true false e i = rw e
 
-  left : targets_of p (drop k es) ≡ keep (eqb lead.owner p) lead.to (targets_of p (drop (k + 1) es))
-  left = ap (targets_of p) (drop-cons es k no_lead h) ∙ ap (λ (j : ℕ). keep (eqb lead.owner p) lead.to (targets_of p (drop j es))) (sym (add-one k))
-
-  pub out_next : lead.owner ≡ p → has lead.to done ≡ true → out_of done (targets_of p (drop k es)) ≡ out_of done (targets_of p (drop (k + 1) es))
-  out_next o e = rw (left, eq-eqb lead.owner p o, e)
-
-  pub out_other : (lead.owner ≡ p → ⊥) → out_of done (targets_of p (drop k es)) ≡ out_of done (targets_of p (drop (k + 1) es))
-  out_other o = rw (left, ne_eqb lead.owner p o)
+-- what `find` found, mapped
+pub mapped-found : (r : Option (Bor Lead)) (o : Option ℕ) (P : Bor Lead → ℕ → Type 0) → MatchOption r (o ≡ None) (λ x. IsSomeAnd o (P x)) → ((x : Bor Lead) (t : ℕ) → P x t → t ≡ x.now.to) → o ≡ option_map (λ (e : Lead). e.to) (option_map (λ (x : Bor Lead). x.now) r)
+mapped-found None o P m k = m
+mapped-found (Some x) None P m k = absurd m
+mapped-found (Some x) (Some t) P m k = ap Some (k x t m)
 
 -- ---- the first that is not listed, or each is
 pub out-all : (done qs : List ℕ) → all_of (λ q. has q done) qs ≡ is_none (out_of done qs)

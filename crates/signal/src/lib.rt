@@ -80,12 +80,10 @@ impl<'a> Sources<'a> {
     fn first_out(&self, done: &[u8], p: u8) -> Option<u8>
         ensures { result ≡ out_of done.now (targets_of p self.now.leads.now) }
     {
-        for e in self.leads {
-            if e.owner == p && !done.contains(&e.to) {
-                return Some(e.to);
-            }
-        }
-        None
+        self.leads
+            .iter()
+            .find(|e| e.owner == p && !done.contains(&e.to))
+            .map(|e| e.to)
     }
 
     // Whether p is free: it is not among the nodes done, and each of its sources is.

@@ -18,9 +18,8 @@ struct Signals;
 
 impl Program for Signals {
     fn print<W: Write>(out: &mut W, line: &[u8]) -> io::Result<()> {
-        let mut bytes = [0u8; 65536];
-        let n = lines::decode(line, &mut bytes);
-        match signal::signal_order(&bytes[..n]) {
+        let mut room = [0u8; 65536];
+        match signal::signal_order(lines::chart_of(line, &mut room)) {
             Ok(nodes) => {
                 write!(out, "order")?;
                 print_nodes(out, &nodes)?;

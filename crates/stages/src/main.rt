@@ -8,12 +8,12 @@ use lines::{Program, ROOM};
 use std::io;
 use std::io::{BufWriter, Write};
 
-// A source: where it leads, and its mark, a number, or `-` for none.
+// A source: where it leads, and the number of the sink that it marks, or `-` for none.
 fn print_source<W: Write>(out: &mut W, x: &Item) -> io::Result<()> {
     write!(out, " {}:", x.to)?;
-    match x.mark {
-        0 => write!(out, "-"),
-        mark => write!(out, "{}", mark - 1),
+    match x.number() {
+        None => write!(out, "-"),
+        Some(i) => write!(out, "{i}"),
     }
 }
 
@@ -78,9 +78,8 @@ struct Stages;
 
 impl Program for Stages {
     fn print<W: Write>(out: &mut W, line: &[u8]) -> io::Result<()> {
-        let mut bytes = [0u8; 65536];
-        let n = lines::decode(line, &mut bytes);
-        let chart = &bytes[..n];
+        let mut room = [0u8; 65536];
+        let chart = lines::chart_of(line, &mut room);
         print_completed(out, chart)?;
         print_cut(out, chart)?;
         print_first(out, chart)

@@ -53,7 +53,7 @@ module _ (c : After-bodies) where
 
   into : let s = c.args.chart.now in
       told (λ u. c.bodies.new.board) c.bodies.result c.bodies.new.self.at ≡ made (with_nodes (empty_board (get_or s 1 0)) 0) (bodies (get_or s 1 0) s 0 (2 + 2 * get_or s 1 0))
-  into = rw c.empty-board.ensures at c.bodies.ensures.nodes.0
+  into = rw c.empty-board.ensures at c.bodies.ensures.0
 
   -- what was answered is the definition's answer
   is : (r : Result Tables Refusal) → (let s = c.args.chart.now in r ≡ read_of (judged c.args.setting s (get_or s 1 0) (bodies (get_or s 1 0) s 0 (2 + 2 * get_or s 1 0)))) → r ≡ read_of (chart c.args.setting c.args.chart.now)

@@ -1,15 +1,17 @@
 -- The cutting walk with an explicit path, against the walk by recursion of `Cutting`: what is left of the walk at a state, and the bound that falls.
 -- Assumes nothing.
-use Rattle.std.specs.Prelude.{ℕ, suc, ◌+◌, ◌-◌, ◌*◌, ◌≤◌, ◌<◌, ◌≡◌, Bool, true, false, List, [], ◌∷◌, length, take, Result, Ok, Err}
+use Rattle.std.specs.Prelude.{ℕ, suc, ◌+◌, ◌-◌, ◌*◌, ◌≤◌, ◌<◌, ◌≡◌, List, [], ◌∷◌, length, take, Result, Ok, Err}
 use Rattle.tables.specs.declared.Table.{Table}
+use Rattle.chart.specs.Tables.{Lines}
 use Rattle.graph.specs.declared.Tables.{Tables}
 use Rattle.refusals.specs.declared.Refusal.{Refusal}
 use Rattle.refusals.specs.declared.Refusal.TheVariants.{ManyBoxes}
 use Rattle.graph.specs.declared.reach.Frame.{Frame}
 use Rattle.graph.specs.declared.reach.Seen.{Seen}
 use Rattle.graph.specs.declared.reach.Seen.TheVariants.{Explored}
-use Rattle.graph.specs.Graph.{Graph, degree}
-use Rattle.graph.specs.Cutting.{Walk, explore_from, explore_sinks, seeing, beginning, cutting}
+use Rattle.graph.specs.Graph.{degree}
+use Rattle.graph.specs.Cutting.{Walk, explore_from, explore_sinks, seeing, cutting}
+use Rattle.graph.specs.Graphed.{Dag, dag_of}
 use Rattle.graph.specs.code.Tables.{graph_of, Roomy}
 use Rattle.graph.specs.code.Path.{path_of, unseens, looks}
 
@@ -82,20 +84,14 @@ pub record Walked (x : Explore) (p : ℕ) (y : Explore) : Type 0 where
   pub lines : y.tables.lines ≡ x.tables.lines
   pub walk : walk_of y ≡ explore_from x.given (walk_of x) p
 
--- the walk over the starts, if asked: not asked, no node is one
-abbrev pub cut_if : Bool → Graph → Walk
-cut_if true g = cutting g
-cut_if false g = beginning g
-
--- r is t with the graph and the cuts of w
-pub record Holds (t r : Tables) (w : Walk) : Type 0 where
+-- r holds the graph, the cuts and the given lines
+pub record Holds (ls : Lines) (d : Dag) (r : Tables) : Type 0 where
   pub sound : Roomy r
-  pub named : length r.names ≡ 48
-  pub graph : graph_of r ≡ w.graph
-  pub cuts : r.cuts ≡ w.cuts
-  pub lines : r.lines ≡ t.lines
+  pub graph : graph_of r ≡ d.graph
+  pub cuts : r.cuts ≡ d.cuts
+  pub lines : r.lines ≡ ls
 
--- r is t, cut if asked, unless a cut would make more than 48 nodes
-abbrev pub CutIf : Bool → Tables → Result (Unit {0}) Refusal → Tables → Type 0
-CutIf cut t (Ok u) r = Holds t r (cut_if cut (graph_of t))
-CutIf cut t (Err why) r = (why ≡ ManyBoxes) × (48 < length (cut_if cut (graph_of t)).graph)
+-- r is t with its cycles cut, unless a cut would make more than 48 nodes
+abbrev pub CyclesCut : Tables → Result (Unit {0}) Refusal → Tables → Type 0
+CyclesCut t (Ok u) r = Holds t.lines (dag_of (cutting (graph_of t))) r × (length r.names ≡ 48)
+CyclesCut t (Err why) r = (why ≡ ManyBoxes) × (48 < length (cutting (graph_of t)).graph)

@@ -1,21 +1,22 @@
 -- What an answer of `graph` or `completed` stands for, what the crates above take of it (`graphs-of`, `completed-answers` of proofs/Tabled), and what private functions answer.
 -- Assumes nothing.
-use Rattle.std.specs.Prelude.{ℕ, ◌≤◌, ◌≡◌, Bool, List, length, replicate, Result, Ok, Err}
+use Rattle.std.specs.Prelude.{ℕ, ◌≤◌, ◌<◌, ◌≡◌, List, length, replicate, Result, Ok, Err}
 use Rattle.laws.specs.Lists.{All, owned_by, tabulate, joined}
 use Rattle.chart.specs.declared.Board.{Board as BoardTables}
 use Rattle.chart.specs.declared.Setting.{Setting}
 use Rattle.refusals.specs.declared.Refusal.{Refusal}
-use Rattle.chart.specs.Chart.{Reading, ready as accepted, refusal as refused, chart}
+use Rattle.refusals.specs.declared.Refusal.TheVariants.{ManyBoxes}
+use Rattle.chart.specs.Chart.{Board, ready as accepted, chart}
 use Rattle.chart.specs.code.Filled.{board_of, tables_of as board_tables}
 use Rattle.chart.specs.code.Reads.{Sound as SoundBoard}
 use Rattle.graph.specs.declared.Item.{Item}
 use Rattle.graph.specs.Items.{Items}
 use Rattle.graph.specs.declared.Tables.{Tables}
-use Rattle.graph.specs.Graph.{Graph, given_graph}
+use Rattle.graph.specs.Graph.{given_graph}
 use Rattle.graph.specs.Joining.{uncut}
-use Rattle.graph.specs.Graphed.{Dag, Graphed, ready, refusal, boxed, graphed}
+use Rattle.graph.specs.Graphed.{Dag, Graphed, ready, refusal, graphed}
 use Rattle.graph.specs.Laws.{Laws}
-use Rattle.graph.specs.code.Explore.{cut_if}
+use Rattle.graph.specs.code.Explore.{Holds}
 use Rattle.graph.specs.code.Tables.{items_of, graph_of, Linked, Charted}
 use Rattle.graph.specs.Outcome.{table_of, answer_of, no_item}
 
@@ -56,15 +57,6 @@ pub record IsAnswer (g : Graphed) (r : Result Tables Refusal) : Type 0 where
 
 -- ---- what private functions answer
 
--- the graph before any cut, cut or not; 13 where the boxes of leads are too many
-abbrev pub stage : Bool → Graph → Graphed
-stage cut g = boxed (cut_if cut g)
-
--- a refused chart stays refused
-abbrev pub staged : Bool → Reading → Graphed
-staged cut (accepted ps) = stage cut (uncut ps)
-staged cut (refused why) = refusal why
-
 -- an accepted chart's board, as the chart crate promises it
 pub record Held (b : BoardTables) : Type 0 where
   pub setting : Setting
@@ -72,6 +64,15 @@ pub record Held (b : BoardTables) : Type 0 where
   pub chart_bytes : List ℕ
   pub read : chart setting chart_bytes ≡ accepted (board_of b)
   pub whole : b ≡ board_tables (length (board_of b)) (board_of b)
+
+-- a board's graph before any cut
+abbrev pub uncut_dag : Board → Dag
+uncut_dag ps = record { graph = uncut ps; cuts = 0 }
+
+-- r holds the board b, completed and joined, unless the boxes of the leads are too many
+abbrev pub IsJoined : BoardTables → Result Tables Refusal → Type 0
+IsJoined b (Ok r) = Holds b.lines (uncut_dag (board_of b)) r
+IsJoined b (Err why) = (why ≡ ManyBoxes) × (48 < length (uncut (board_of b)))
 
 -- r holds the graph that the board b gives
 pub record Begun (b : BoardTables) (r : Tables) : Type 0 where

@@ -1,11 +1,10 @@
 -- The ends of a node in their places, as the code goes over them.
 -- Assumes nothing.
-use Rattle.std.specs.Prelude.{ℕ, ◌+◌, ◌*◌, ◌/◌, List, [], ◌∷◌, eqb, Option}
-use Rattle.std.proofs.Math.Option.{Option as Maybe, none, some}
+use Rattle.std.specs.Prelude.{ℕ, ◌+◌, ◌*◌, ◌/◌, List, [], ◌∷◌, eqb, Option, None, Some}
 use Rattle.std.specs.List.{filter, find, slice_get}
 use Rattle.graph.specs.declared.Item.{Item}
 use Rattle.grid.specs.declared.render_node.row.End.{End}
-use Rattle.grid.specs.declared.render_node.row.Laid.{Laid}
+use Rattle.grid.specs.declared.render_node.row.RunEnds.{RunEnds}
 
 -- an end whose text begins at x
 abbrev pub end_of : ℕ → Item → End
@@ -21,10 +20,10 @@ abbrev pub own : ℕ → List Item → List Item
 own p = filter (λ r. eqb r.owner p)
 
 -- the ends that the iterator has left
-abbrev pub ends_left : Laid → List End
+abbrev pub ends_left : RunEnds → List End
 ends_left s = ends_at s.gap s.x (own s.owner s.rest.now)
 
 -- the end with a number, or, where there is none, the first that leads to k
-abbrev pub end_for : Maybe ℕ → ℕ → List End → Option End
-end_for none k es = find (λ e. eqb e.item.to k) es
-end_for (some m) k es = slice_get es m
+abbrev pub end_for : Option ℕ → ℕ → List End → Option End
+end_for None k es = find (λ e. eqb e.item.to k) es
+end_for (Some m) k es = slice_get es m

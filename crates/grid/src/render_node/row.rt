@@ -13,9 +13,9 @@ pub struct End {
     pub item: Item,
 }
 
-// The ends of a node that are left in a table; the next begins at x.
+// The ends of a run that are left: a node's, in the rest of a table. The next begins at x.
 #[derive(Drop)]
-pub struct Laid<'a> {
+pub struct RunEnds<'a> {
     rest: &'a [Item],
     owner: u8,
     x: u32,
@@ -31,11 +31,11 @@ impl Run {
     ghost use Rattle.grid.specs.code.Row.{ends_at, own, ends_left};
 
     // The ends that p owns in the table, laid so.
-    pub fn ends(self, t: &Items, p: u8) -> Laid<'_>
+    pub fn ends(self, t: &Items, p: u8) -> RunEnds<'_>
         requires { Low self }
         ensures { ends_left result ≡ ends_at self.gap self.x (own p (items_of t.now)) }
     {
-        Laid {
+        RunEnds {
             rest: t.as_slice(),
             owner: p,
             x: self.x,
@@ -44,7 +44,7 @@ impl Run {
     }
 }
 
-impl Iterator for Laid<'_> {
+impl Iterator for RunEnds<'_> {
     ghost use Rattle.std.specs.Iterator.{YieldsFirst, item_count};
     ghost use Rattle.grid.specs.code.Row.{ends_left};
 

@@ -30,6 +30,7 @@ pub record Has (n : ℕ) (h : Held) (k i r : ℕ) : Type 0 where
   pub place : place_at h r ≡ i
 
 pub record Stand (n : ℕ) (cs : Chains) (h : Held) : Type 0 where
+  pub count : h.n ≡ n
   pub tops : Tops n cs h.chains
   pub long : length h.seats ≡ 48
   pub at : (p : ℕ) → p < n → At n cs h p

@@ -1,13 +1,15 @@
--- The pair sums as the code holds them: a table of 1,128 numbers, each both sums of a pair, row by row; and one node against another as
--- one number. Not document 01's words: `Weights` and `Chains` have those.
+-- The pair sums as the code holds them: a table of 1,128 numbers, each both sums of a pair, row by row; and the
+-- codes, one node against another. Not document 01's words: `Weights` and `Chains` have those.
 -- Assumes nothing.
 use Rattle.std.specs.Prelude.{ℕ, zero, suc, ◌+◌, ◌-◌, ◌*◌, ◌/◌, ◌%◌, ◌≤◌, ◌<◌, Bool, true, false, cond, ◌||◌, ◌≡◌, List, [], map, eqb, ltb, length, get_or, set}
 use Rattle.graph.specs.Shape.{Shape}
 use Rattle.order.specs.Against.{Against, all}
 use Rattle.order.specs.Claims.{Aimed}
+use Rattle.order.specs.declared.codes.Pair.{Pair}
+use Rattle.order.specs.declared.keys.Key.{Key}
 use Rattle.order.specs.declared.weights.Round.{Round}
 use Rattle.order.specs.declared.weights.Round.TheVariants.{First, Second}
-use Rattle.order.specs.code.Keys.{placed_key}
+use Rattle.order.specs.code.Keys.{key, placed_key}
 use Rattle.order.specs.Weights.{Table, before_of, after_of, weights}
 
 -- how far on the row of a stands, and the place of the pair of a and b, a < b
@@ -17,42 +19,39 @@ row_at a = a * (93 - a) / 2
 abbrev pub pair_at : ℕ → ℕ → ℕ
 pair_at a b = row_at a + b - 1
 
--- one node against another, as a number; its first and its second node
-abbrev pub code_of : Against → ℕ
-code_of c = c.first * 64 + c.second
+-- one node against another
+abbrev pub code_of : Against → Pair
+code_of c = record { first = c.first; second = c.second }
 
-abbrev pub first_in : ℕ → ℕ
-first_in k = k / 64
-
-abbrev pub second_in : ℕ → ℕ
-second_in k = k % 64
+abbrev pub no_pair : Pair
+no_pair = record { first = 0; second = 0 }
 
 -- both nodes of each code are below n
-pub record Coded (n : ℕ) (cs : List ℕ) : Type 0 where
+pub record Coded (n : ℕ) (cs : List Pair) : Type 0 where
   pub few : n ≤ 48
-  pub first : (k : ℕ) → k < length cs → first_in (get_or cs k 0) < n
-  pub second : (k : ℕ) → k < length cs → second_in (get_or cs k 0) < n
+  pub first : (k : ℕ) → k < length cs → (get_or cs k no_pair).first < n
+  pub second : (k : ℕ) → k < length cs → (get_or cs k no_pair).second < n
 
 -- both sums of a pair as one number, so that one addition adds both: x before and y after
 abbrev pub sums_of : ℕ → ℕ → ℕ
 sums_of x y = x + 65536 * y
 
 -- the key of the pair of a and b with the sums v
-abbrev pub turn_key : ℕ → ℕ → ℕ → ℕ
-turn_key v a b = cond (ltb (v % 65536) (v / 65536)) (v % 65536 * 4096 + b * 64 + a) (v / 65536 * 4096 + a * 64 + b)
+abbrev pub turn_key : ℕ → ℕ → ℕ → Key
+turn_key v a b = cond (ltb (v % 65536) (v / 65536)) (key (v % 65536) b a) (key (v / 65536) a b)
 
 -- the number that the table has for the pair of a and b
 abbrev pub at : List ℕ → ℕ → ℕ → ℕ
 at l a b = get_or l (pair_at a b) 0
 
--- the key of the pair of p and q
-abbrev pub key_at : List ℕ → ℕ → ℕ → ℕ
-key_at l p q = cond (eqb p q) (p * 64 + q) (cond (ltb p q) (turn_key (at l p q) p q) (turn_key (at l q p) q p))
+-- the key of p against q
+abbrev pub key_at : List ℕ → ℕ → ℕ → Key
+key_at l p q = cond (eqb p q) (turn_key 0 p q) (cond (ltb p q) (turn_key (at l p q) p q) (turn_key (at l q p) q p))
 
 -- the keys of the first k codes, each placed among those before it
-unfoldable pub keys_after : List ℕ → List ℕ → ℕ → List ℕ
+unfoldable pub keys_after : List Pair → List ℕ → ℕ → List Key
 keys_after cs l zero = []
-keys_after cs l (suc k) = placed_key (key_at l (first_in (get_or cs k 0)) (second_in (get_or cs k 0))) (keys_after cs l k)
+keys_after cs l (suc k) = placed_key (key_at l (get_or cs k no_pair).first (get_or cs k no_pair).second) (keys_after cs l k)
 
 -- v more for the pair of a and b
 abbrev pub raised : List ℕ → ℕ → ℕ → ℕ → List ℕ
@@ -63,9 +62,9 @@ abbrev pub count_of : List ℕ → ℕ → ℕ → List ℕ
 count_of l p q = cond (ltb p q) (raised l p q 1) (cond (ltb q p) (raised l q p 65536) l)
 
 -- the table after k codes
-unfoldable pub tallied : List ℕ → List ℕ → ℕ → List ℕ
+unfoldable pub tallied : List Pair → List ℕ → ℕ → List ℕ
 tallied cs l zero = l
-tallied cs l (suc k) = count_of (tallied cs l k) (first_in (get_or cs k 0)) (second_in (get_or cs k 0))
+tallied cs l (suc k) = count_of (tallied cs l k) (get_or cs k no_pair).first (get_or cs k no_pair).second
 
 -- What a pair with the sums x and one with y add to a third; nothing if one does not stand.
 abbrev pub leg_at : ℕ → ℕ → ℕ
@@ -141,14 +140,14 @@ pub record RoundFits (make : Bool) (n : ℕ) (t : List ℕ) : Type 0 where
   pub fits : (a c : ℕ) → a < c → c < n → round_at make t a c < 4294967296
 
 -- the codes are those of a graph of at most 48 nodes, in order
-pub record Codes (g : Shape) (xs : List ℕ) : Type 0 where
+pub record Codes (g : Shape) (xs : List Pair) : Type 0 where
   pub few : length g ≤ 48
   pub aimed : Aimed (length g) g
   pub room : length xs ≤ 352
   pub same : xs ≡ map code_of (all g)
 
 -- the codes are those of some graph of n nodes
-pub record Charted (xs : List ℕ) (n : ℕ) : Type 0 where
+pub record Charted (xs : List Pair) (n : ℕ) : Type 0 where
   pub graph : Shape
   pub size : length graph ≡ n
   pub codes : Codes graph xs
@@ -158,5 +157,5 @@ abbrev pub Hold : ℕ → Table → List ℕ → Type 0
 Hold n t s = (a b : ℕ) → a < b → b < n → at s a b ≡ sums_of (before_of a b t) (after_of a b t)
 
 -- s has the weights of each graph of n nodes whose codes these are
-abbrev pub Weighed : List ℕ → ℕ → List ℕ → Type 0
+abbrev pub Weighed : List Pair → ℕ → List ℕ → Type 0
 Weighed xs n s = (g : Shape) → Codes g xs → length g ≡ n → Hold (length g) (weights g) s

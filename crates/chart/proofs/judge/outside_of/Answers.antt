@@ -1,26 +1,19 @@
--- `judge::outside_of`: what is left to look at gives the answer.
+-- `judge::outside_of`: what `find` finds, and its target.
 -- Assumes nothing.
-use Rattle.std.proofs.Common.{sym, ◌∙◌}
-use Rattle.chart.proofs.Targets.{looked-other, looked-below, looked-found, looked-end}
+use mathlib.Core.Bool.{◌&&◌}
+use lib.Dec.{eqb, leb}
+use Rattle.std.proofs.Common.{rules, tests, ap, ◌∙◌}
+use Rattle.std.specs.Option.{option_map}
+use Rattle.std.proofs.lemmas.Iterator.{YieldsList-from_slice}
+use Rattle.std.proofs.lemmas.Iterator.Search.{find_from_yields_List}
+use Rattle.chart.specs.declared.Item.{Item}
+use Rattle.chart.proofs.Targets.{found-outside, mapped-found}
 use Rattle.chart.proofs.judge.outside_of.Goals as goal
-use Rattle.chart.proofs.judge.outside_of.Goals.{else-e-owner-via-then-e-owner+else-n-e, else-e-owner-via-else-e-owner}
-
-pub loop-e-preserved : goal.loop-e-preserved
-loop-e-preserved c =
-    let a = c.args in
-    let k = c.loop-e.e-index in
-    let h = c.loop-e-test.true in
-    elim c.else-e-owner.branch [
-      | else-e-owner-via-then-e-owner+else-n-e w ↦ sym (looked-below a.items.now a.owner a.n k h w.if-e-owner.true w.if-n-e.false) ∙ c.loop-e.invariant
-      | else-e-owner-via-else-e-owner w ↦ sym (looked-other a.items.now a.owner a.n k h w.if-e-owner.false) ∙ c.loop-e.invariant
-    ]
-
-pub returns-then-n-e : goal.returns-then-n-e
-returns-then-n-e c =
-    let a = c.args in
-    sym (looked-found a.items.now a.owner a.n c.loop-e.e-index c.loop-e-test.true c.if-e-owner.true c.if-n-e.true) ∙ c.loop-e.invariant
 
 pub returns : goal.returns
 returns c =
     let a = c.args in
-    sym (looked-end a.items.now a.owner a.n c.loop-e.e-index c.loop-e-test.false) ∙ c.loop-e.invariant
+    let found = find_from_yields_List (λ (e : Item). eqb e.owner a.owner && leb a.n e.to) c.find.new.self _ c.find.result c.find.ensures.ran (YieldsList-from_slice a.items.now c.iter.ensures.rest) (λ x b q k. search (rules, tests)) in
+    mapped-found c.find.result c.map.result _ c.map.ensures.cases (λ x t p. search (rules))
+    ∙ ap (option_map (λ (e : Item). e.to)) found
+    ∙ found-outside a.owner a.n a.items.now

@@ -1,13 +1,10 @@
 -- `completion::complete`: each node keeps what is left to do, by the laws of `Rounds`.
 -- Assumes nothing.
-use Rattle.graph.proofs.Rounds.{doing_first, doing_last, doing_room, doing_next}
+use Rattle.graph.proofs.Rounds.{doing_first, doing_last, doing_next}
 use Rattle.graph.proofs.completion.complete.Goals as goal
 
 pub loop-p-init : goal.loop-p-init
 loop-p-init c = rw c.as_slice-given.ensures.items (doing_first c.args.t.now c.requires)
-
-pub complete_sinks-requires-clause-sinks_bound : goal.complete_sinks-requires-clause-sinks_bound
-complete_sinks-requires-clause-sinks_bound c = doing_room _ c.args.t.now c.loop-p.t c.loop-p.p c.loop-p.invariant c.loop-p-test.true
 
 pub loop-p-preserved : goal.loop-p-preserved
 loop-p-preserved c =

@@ -39,8 +39,8 @@ module _ (c : After-count_owned-number) where
 pub overflow_cast-number : goal.overflow_cast-number
 overflow_cast-number c = omega (arith, few c)
 
-pub overflow_add-t : goal.overflow_add-t
-overflow_add-t c = omega (arith, few c)
+pub marked-requires : goal.marked-requires
+marked-requires c = omega (arith, few (goal.at.marked-requires c).After-count_owned-number)
 
 pub returns : goal.returns
 returns c =
@@ -49,8 +49,9 @@ returns c =
     let xs = c.as_slice.ensures.items in
     let at = (goal.at.returns c).After-count_owned-number in
     let h : c.args.k < t.sources.count = omega (arith, r.k_lt_count, table_le t.sources) in
-    sink-gained t r.owned c.args.k r.k_lt_count (omega (arith, rw xs at c.if-t-e.false)) r.count_bound
+    rw c.marked.ensures
+    (sink-gained t r.owned c.args.k r.k_lt_count (omega (arith, rw xs at c.if-t-e.false)) r.count_bound
     (rw (xs, c.as_slice-2.ensures.items) at (sym c.leads_to.ensures ∙ c.if-leads_to.false))
     c.count_owned-number.result (counted at) _ c.push.new.self
     (stored-is t.sources c.as_slice.ensures.long r.owned.source_room c.args.k h (mark_item (c.count_owned-number.result + 1)), refl)
-    (pushed-is t.sinks c.push.ensures.long r.owned.sink_room r.count_bound (sink_of (x at).owner (x at).to) c.push.result c.push.ensures.room c.push.new.self (rw (c.sink_of.ensures, xs) at c.push.ensures.table))
+    (pushed-is t.sinks c.push.ensures.long r.owned.sink_room r.count_bound (sink_of (x at).owner (x at).to) c.push.result c.push.ensures.room c.push.new.self (rw (c.sink_of.ensures, xs) at c.push.ensures.table)))

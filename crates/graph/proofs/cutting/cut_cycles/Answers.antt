@@ -122,8 +122,7 @@ loop-f-preserved c = since _ _ _ c.loop-f.invariant (pass (goal.at.loop-f-preser
 
 pub returns-then-n-gt-NODES : goal.returns-then-n-gt-NODES
 returns-then-n-gt-NODES c =
-    let more : 48 < length (answer (state c.args.t.now.n c.loop-f.t c.loop-f.seen c.loop-f.path)).graph = over (goal.at.returns-then-n-gt-NODES c).After-push-in-Some (ap on_path? c.in-OnPath.is) c.if-n-gt-NODES.true in
-    rw c.if-not-cut.false (
+    let more : 48 < length (answer (state c.args.t.now.n c.loop-f.t c.loop-f.seen c.loop-f.path)).graph = over (goal.at.returns-then-n-gt-NODES c).After-push-in-Some (ap on_path? c.in-OnPath.is) c.if-n-gt-NODES.true in (
       refl,
       start-over c.args.t.now (between c.args.t.now.n c.loop-p.t c.loop-p.seen) c.loop-p.p c.loop-p.invariant c.loop-p-test.true (unseen-ne _ _ _ c.ne.ensures c.if-ne.false)
           (subst (λ (u : Walk). 48 < length u.graph) (walk_is (goal.at.returns-then-n-gt-NODES c).At-loop-f) more),
@@ -152,6 +151,7 @@ loop-p-preserved c =
 
 pub returns : goal.returns
 returns c =
-    let e : walk_of (between c.args.t.now.n c.loop-p.t c.loop-p.seen) ≡ cutting (graph_of c.args.t.now) = start-last c.args.t.now _ c.loop-p.p c.loop-p.invariant c.loop-p-test.false in
-    rw c.if-not-cut.false
-    (record { sound = c.loop-p.invariant.ready.sound; named = c.loop-p.invariant.ready.named; graph = ap (λ (u : Walk). u.graph) e; cuts = ap (λ (u : Walk). u.cuts) e; lines = c.loop-p.invariant.lines })
+    let e : walk_of (between c.args.t.now.n c.loop-p.t c.loop-p.seen) ≡ cutting (graph_of c.args.t.now) = start-last c.args.t.now _ c.loop-p.p c.loop-p.invariant c.loop-p-test.false in (
+      record { sound = c.loop-p.invariant.ready.sound; graph = ap (λ (u : Walk). u.graph) e; cuts = ap (λ (u : Walk). u.cuts) e; lines = c.loop-p.invariant.lines },
+      c.loop-p.invariant.ready.named,
+    )

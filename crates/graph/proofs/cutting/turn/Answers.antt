@@ -28,7 +28,7 @@ loop-e-preserved c =
     let xs = c.args.sources.now in
     elim c.if-e-q.branch [
       | then-e-q+then-e-c w ↦
-          w.e-items-is ∙ put c.args.q c.args.c c.args.to xs l.e-items l.e-index c.loop-e-test.true l.invariant _ (rw (eq-eqb x.owner c.args.q w.if-e-q.true, eq-eqb x.to c.args.c w.if-e-c.true)) (omega (arith, c.loop-e-test.true))
+          w.e-items-is ∙ put c.args.q c.args.c c.args.to xs l.e-items l.e-index c.loop-e-test.true l.invariant (record { owner = x.owner; to = c.args.to; mark = w.marked-e.result; at = x.at; len = x.len }) (rw (eq-eqb x.owner c.args.q w.if-e-q.true, eq-eqb x.to c.args.c w.if-e-c.true, w.marked-e.ensures)) (omega (arith, c.loop-e-test.true))
       | else-e-q w ↦
           w.e-items-is
           ∙ elim w.else-e-q.branch [

@@ -44,7 +44,7 @@ drawn c =
     let run = c.moved-run.result in
     let xs = items_of c.args.sinks.now in
     ap (λ (v : Run). curve_if (output_for i.mark (laid_outputs v (owned i.from xs)) c.loop-k.k) i) (sym c.moved-run.ensures)
-    ∙ rw (outputs-are i.from run.gap run.y xs run.x, ← c.ends-ends.ensures) (curve-is run.y c.loop-k.k i i.mark (ends_left c.ends-ends.result))
+    ∙ rw (outputs-are i.from run.gap run.y xs run.x, ← c.ends-ends.ensures) (curve-is run.y c.loop-k.k i i.mark c.number.result c.number.ensures (ends_left c.ends-ends.result))
     ∙ ap (λ o. curve_of o run.y i) (sym c.output_for.ensures)
 
 pub loop-e-preserved-in-Some-output_for : goal.loop-e-preserved-in-Some-output_for

@@ -5,8 +5,8 @@ use Rattle.std.specs.Prelude.{Err}
 use Rattle.chart.proofs.Readers.{bodies_misplaced, bodies_first}
 use Rattle.chart.proofs.reader.Reader.bodies.Goals as goal
 
-pub returns-then-contents-self-clause-nodes : goal.returns-then-contents-self-clause-nodes
-returns-then-contents-self-clause-nodes c =
+pub returns-then-contents-self : goal.returns-then-contents-self
+returns-then-contents-self c =
     let l = c.loop-k in
     let s = c.args.self.now.chart.now in
     let n = c.args.board.now.n in
@@ -14,8 +14,8 @@ returns-then-contents-self-clause-nodes c =
     let o = rw l.invariant.1 at c.contents.ensures in
     (rw (← l.invariant.0, bodies_misplaced l.board l.k s l.self.at (n - l.k) (omega arith) (λ e. c.if-contents-self.true (o ∙ e))), l.invariant.1)
 
-pub returns-in_err-body-clause-nodes : goal.returns-in_err-body-clause-nodes
-returns-in_err-body-clause-nodes c =
+pub returns-in_err-body : goal.returns-in_err-body
+returns-in_err-body c =
     let l = c.loop-k in
     let s = c.args.self.now.chart.now in
     let n = c.args.board.now.n in
