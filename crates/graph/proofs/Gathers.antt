@@ -5,12 +5,12 @@ use native.Mathlib.Omega.{arith}
 use mathlib.Core.Path.{◌≡◌, refl, ap, sym, ◌∙◌, subst}
 use mathlib.Core.Bool.{Bool, true, false, cond}
 use mathlib.Core.Option.{Option, none, some}
-use mathlib.Core.List.{List, [], ◌∷◌, map}
+use mathlib.Core.List.{List, [], ◌∷◌, ◌++◌, map}
 use lib.Dec.{leb}
 use lib.ListN.{length, get_or, length-map, length-append}
 use borrow.Author.Tests.{leb-true}
-use Rattle.laws.specs.Lists.{All, flat}
-use Rattle.laws.proofs.Lists.{all_map, all-flat}
+use Rattle.laws.specs.Lists.{All, flat, padded}
+use Rattle.laws.proofs.Lists.{all_map, all_join, all-flat}
 use Rattle.std.specs.Prelude.{Result, Ok}
 use Rattle.refusals.specs.Refusals.{numbers_in}
 use Rattle.refusals.specs.declared.Refusal.{Refusal}
@@ -21,6 +21,7 @@ use Rattle.chart.specs.Chart.{Part, Board, Reading, ready as accepted, refusal a
 use Rattle.chart.specs.Accepted.{Accepted}
 use Rattle.chart.proofs.Accepts.{accepted as accepts}
 use Rattle.graph.specs.declared.Item.{Item}
+use Rattle.graph.specs.declared.Name.{Name}
 use Rattle.graph.specs.declared.Name.TheVariants.{Nothing}
 use Rattle.graph.specs.declared.Tables.{Tables}
 use Rattle.graph.specs.Graph.{Line, given, Edge, Node, Graph, bare, given_node, given_graph, node_at, degree}
@@ -29,11 +30,11 @@ use Rattle.graph.specs.Joining.{leads_of, uncut}
 use Rattle.graph.specs.Cutting.{Walk, cutting}
 use Rattle.graph.specs.Graphed.{Dag, dag_of, ready, refusal, boxed, drawn, graphed}
 use Rattle.graph.specs.code.Tables.{items_of, Linked}
-use Rattle.graph.specs.Laws.{Aimed, Names, Marked, Unmarked, ends, Laws, Walks}
+use Rattle.graph.specs.Laws.{Aimed, Names, Named, Marked, Unmarked, ends, Laws, Walks}
 use Rattle.graph.specs.Completed.{CompletedLaws}
-use Rattle.graph.specs.Outcome.{held_mark, item_of, sources_from, sinks_from, texts_from, name_of, tables_of, answer_of, IsGraph}
-use Rattle.graph.specs.code.Graphs.{dag_in, graphed_of, Sound, Graphs, IsAnswer}
-use Rattle.graph.proofs.LineLaws.{complete-lines, completed-length}
+use Rattle.graph.specs.Outcome.{held_mark, item_of, sources_from, sinks_from, texts_from, name_of, names_of, tables_of, answer_of, IsGraph}
+use Rattle.graph.specs.code.Graphs.{dag_in, graphed_of, NameWithin, Sound, Graphs, IsAnswer}
+use Rattle.graph.proofs.LineLaws.{lines_in, given_lines, complete-lines, completed-length}
 use Rattle.graph.proofs.AimLaws.{cutting-aims, cutting-count}
 use Rattle.graph.proofs.MarkLaws.{cutting-marks}
 use Rattle.graph.proofs.MutualLaws.{complete_mutual}
@@ -42,7 +43,7 @@ use Rattle.graph.proofs.RoomLaws.{cutting-ends}
 use Rattle.graph.proofs.JoinLaws.{OffIn}
 use Rattle.graph.proofs.DepthLaws.{reached-enough, cutting-enough}
 use Rattle.graph.proofs.Orders.{table-back}
-use Rattle.graph.proofs.Uncut.{Plain, given-aimed, lines_at_lem, uncut-long, uncut-aims, uncut-marks, uncut-plain, uncut-none, uncut-sources, uncut-sinks, uncut-texts, lines-off, uncut-boxes, uncut-own-sinks, uncut-own-sources, cut-kept, cut-plain, lines-kept, lines_new, lines-halves}
+use Rattle.graph.proofs.Uncut.{Plain, given-aimed, lines_at_lem, uncut-long, uncut-aims, uncut-marks, uncut-plain, uncut-none, uncut-sources, uncut-sinks, uncut-texts, lines-off, uncut-boxes, uncut-own-sinks, uncut-own-sources, uncut-offs_in, offs, cut_lined, cut-rest, cut-kept, cut-plain, lines-kept, lines_new, lines-halves}
 use Rattle.graph.proofs.NoLeads.{none-aimed}
 use Rattle.graph.proofs.Begins.{cut-lines, few-lines}
 
@@ -170,6 +171,30 @@ pub given_name : (ts : List Part) → name_of (map given ts) ≡ Nothing
 given_name [] = refl
 given_name (t ∷ ts) = given_name ts
 
+-- ---- names: of a given node's lines, of a lead's box, of a cut's
+all-padded : {A : Type 0} (P : A → Type 0) (m : ℕ) (z : A) (xs : List A) → P z → All P xs → All P (padded m z xs)
+all-padded P zero z xs h a = tt
+all-padded P (suc m) z [] h a = (h, all-padded P m z [] h tt)
+all-padded P (suc m) z (x ∷ xs) h a = (a.0, all-padded P m z xs h a.1)
+
+given-names : (ps : Board) → All (λ (l : List Line). NameWithin (name_of l)) (given_lines ps)
+given-names [] = tt
+given-names (p ∷ ps) = (subst NameWithin (sym (given_name p.lines)) tt, given-names ps)
+
+off_name : (n : ℕ) (l : List Line) → OffIn n 256 l → NameWithin (name_of l)
+off_name n l o = rw o.line (omega (arith, o.given, o.past), o.small)
+
+number_name : (n : ℕ) → n ≤ 32 → (l : List Line) → Named n l → NameWithin (name_of l)
+number_name n h l o = rw o.line (omega (arith, o.inside))
+
+all-names : (ls : List (List Line)) → All (λ (l : List Line). NameWithin (name_of l)) ls → All NameWithin (map name_of ls)
+all-names [] a = tt
+all-names (l ∷ ls) a = (a.0, all-names ls a.1)
+
+map-names : (g : Graph) → names_of g ≡ map name_of (lines_in g)
+map-names [] = refl
+map-names (x ∷ g) = cc (map-names g)
+
 -- the chart is made of bytes
 abbrev pub Bytes : List ℕ → Type 0
 Bytes s = (i : ℕ) → get_or s i 0 < 256
@@ -184,7 +209,7 @@ box-byte w s b d l k h i =
     let ps : Board = l.board in
     rw (l.kept k h i) (lines-off ps 256 (omega (arith, (accepts w s ps l.read).nodes)) (given-bytes w s b ps l.read) k h i)
 
-module _ (w : Setting) (s : List ℕ) (t : Tables) (b : Linked t) (e : t ≡ tables_of (dag_in t)) where
+module _ (w : Setting) (s : List ℕ) (bytes : Bytes s) (t : Tables) (b : Linked t) (e : t ≡ tables_of (dag_in t)) where
   abbrev d : Dag
   d = dag_in t
 
@@ -206,6 +231,22 @@ module _ (w : Setting) (s : List ℕ) (t : Tables) (b : Linked t) (e : t ≡ tab
         let z : length (texts_from 0 u) ≡ length (texts_from 0 (cutting (uncut l.board)).graph) = ap (λ (c : Dag). length (texts_from 0 c.graph)) l.walk in
         omega (arith, ap (λ (y : Tables). y.lines.count) e, z, few-lines w s l.board l.read _ (cut-lines l.board))
 
+    names : All NameWithin t.names
+    names =
+        let ps : Board = l.board in
+        let a : Accepted w s ps = accepts w s ps l.read in
+        let g : Graph = (cutting (uncut ps)).graph in
+        let us : List (List Line) = given_lines ps in
+        let z : names_of u ≡ map name_of (us ++ (offs ps ++ (cut_lined ps).rest)) = ap (λ (c : Dag). names_of c.graph) l.walk ∙ map-names g ∙ ap (map name_of) (cut-rest ps) in
+        let P : List Line → Type 0 = λ m. NameWithin (name_of m) in
+        let all : All P (us ++ (offs ps ++ (cut_lined ps).rest)) =
+        all_join P us (offs ps ++ (cut_lined ps).rest) (given-names ps)
+        (all_join P (offs ps) (cut_lined ps).rest
+        (all_map (off_name (length ps)) (offs ps) (uncut-offs_in ps 256 (omega (arith, a.nodes)) (given-bytes w s bytes ps l.read)))
+        (all_map (number_name (length ps) a.nodes) (cut_lined ps).rest (cut_lined ps).named)) in
+        rw (ap (λ (y : Tables). y.names) e)
+        (all-padded NameWithin 48 Nothing (names_of u) tt (rw z (all-names (us ++ (offs ps ++ (cut_lined ps).rest)) all)))
+
     pub tables-sound : Sound t
     tables-sound =
         record {
@@ -213,10 +254,11 @@ module _ (w : Setting) (s : List ℕ) (t : Tables) (b : Linked t) (e : t ≡ tab
           line_room = few;
           source_marks = rw items-are (all-flat item_of (λ (x : Node). x.sources) (length u) Low (λ (x : Item). x.mark ≤ 88) (λ p y h k. k) 0 u (omega arith) lows);
           sink_marks = rw sinks-are (all-flat item_of (λ (x : Node). x.sinks) (length u) Plain (λ (x : Item). x.mark ≡ 0) (λ p y h k. ap held_mark k) 0 u (omega arith) l.unmarked);
+          names = names;
         }
 
 -- ---- the contract of `graph`
-module _ (w : Setting) (s : List ℕ) (r : Result Tables Refusal) (a : IsAnswer (graphed w s) r) where
+module _ (w : Setting) (s : List ℕ) (bytes : Bytes s) (r : Result Tables Refusal) (a : IsAnswer (graphed w s) r) where
   module _ (t : Tables) (e : r ≡ Ok t) where
     drawn-is : graphed w s ≡ ready (dag_in t)
     drawn-is = sym a.graphs ∙ ap graphed_of e
@@ -228,13 +270,13 @@ module _ (w : Setting) (s : List ℕ) (r : Result Tables Refusal) (a : IsAnswer 
     laws-of = graph-laws w s (dag_in t) drawn-is
 
     sound-by : Sound t
-    sound-by = tables-sound w s t (a.linked t e) tables-are laws-of
+    sound-by = tables-sound w s bytes t (a.linked t e) tables-are laws-of
 
   pub is-graphs : Graphs w s r
   is-graphs = record { graphs = a.graphs; whole = a.whole; sound = sound-by; laws = laws-of }
 
-  pub is-graph : Bytes s → IsGraph w s r
-  is-graph bytes =
+  pub is-graph : IsGraph w s r
+  is-graph =
       record {
         whole = a.whole;
         refused = λ why e. a.whole ∙ ap answer_of e;

@@ -39,7 +39,7 @@ use Rattle.graph.proofs.Gathers.{Bytes, board-none, strict-uncut, completed-laws
 module _ (w : Setting) (s : List ℕ) (bytes : Bytes s) (o : Result BoardTables Refusal) (promised : IsRead w s o) where
   pub graph-unread : (why : Refusal) → o ≡ Err why → IsGraph w s (Err why)
   unfolding graphed
-  graph-unread why e = is-graph w s (Err why) (rw (read-refused w s o promised why e) (none_answers why)) bytes
+  graph-unread why e = is-graph w s bytes (Err why) (rw (read-refused w s o promised why e) (none_answers why))
 
   module _ (b : BoardTables) (e : o ≡ Ok b) where
     abbrev ps : Board
@@ -47,7 +47,7 @@ module _ (w : Setting) (s : List ℕ) (bytes : Bytes s) (o : Result BoardTables 
 
     by : (r : Result Tables Refusal) → IsAnswer (boxed (cutting (uncut ps))) r → IsGraph w s r
     unfolding graphed
-    by r a = is-graph w s r (rw (read-ready w s o promised b e) a) bytes
+    by r a = is-graph w s bytes r (rw (read-ready w s o promised b e) a)
 
     over : (why : Refusal) → why ≡ ManyBoxes → 48 < length (cutting (uncut ps)).graph → IsGraph w s (Err why)
     over why z m = rw z (by (Err ManyBoxes) (rw (lt-leb (length (cutting (uncut ps)).graph) 48 m) (none_answers ManyBoxes)))

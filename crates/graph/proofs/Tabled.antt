@@ -228,7 +228,7 @@ answers w s (refusal why) e = none_answers why
 
 -- what the crates above take from the promise of `graph`
 pub graphs-of : (w : Setting) (s : List ℕ) (r : Result Tables Refusal) → IsGraph w s r → Graphs w s r
-graphs-of w s r i = is-graphs w s r (rw i.whole (answers w s (graphed w s) refl))
+graphs-of w s r i = is-graphs w s i.bytes r (rw i.whole (answers w s (graphed w s) refl))
 
 -- ---- the completed graph
 module _ (s : List ℕ) (r : Result Tables Refusal) (i : IsCompleted s r) where

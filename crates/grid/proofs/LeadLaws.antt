@@ -185,6 +185,7 @@ module _ (n : ℕ) (s k : Ends) (x : Linked n s) (y : Linked n k) where
         record {
           long = length-sets (replicate 176 0) 0 (ends_to s k n);
           nodes = x.nodes;
+          first = b.start 0 (omega arith);
           rising = rises;
           few = omega (arith, b.start n (omega arith), ends-room n);
           node = λ i h.

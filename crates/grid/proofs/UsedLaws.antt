@@ -2,18 +2,19 @@
 -- Assumes nothing.
 use Prim.Native.Nat.{ℕ, zero, suc, ◌+◌, ◌-◌, ◌*◌, ◌/◌, ◌%◌, ◌^◌, ◌≤◌, ◌<◌, max}
 use native.Mathlib.Omega.{arith}
-use native.Mathlib.Nat.{div_self, div-eq_of_lt, one-mul}
+use native.Mathlib.Nat.{div_self, div-eq_of_lt, one-mul, le_of_suc-le-suc, not-suc-le-zero}
+use native.Mathlib.Numerals.{add-one}
 use mathlib.Core.Path.{◌≡◌, refl, ap, sym, ◌∙◌}
 use mathlib.Core.Logic.{◌⊎◌, inl, inr}
 use mathlib.Core.Bool.{Bool, true, cond, ◌&&◌, ◌||◌, true≢false}
 use mathlib.Core.List.{List, [], ◌∷◌, ◌++◌}
 use lib.Bits.{bit_or, or_shr, or_step, shifted_even}
 use lib.Dec.{eqb}
-use lib.ListN.{length, get_or, set, replicate, length-set, get_or-replicate}
+use lib.ListN.{length, get_or, set, replicate, take, length-set, get_or-replicate}
 use lib.Pow.{pow-lt, pow-add, pow_pos, shl_exact, shl-shr}
 use lib.Seq.{get_or-set_same, get_or-set_other}
 use borrow.Author.Tests.{eq-eqb, ne_eqb}
-use Rattle.laws.proofs.Tests.{and_false, or_true, or_false, same?, less?}
+use Rattle.laws.proofs.Tests.{and_false, or_true, or_false, or_assoc, same?, less?}
 use Rattle.grid.specs.Lists.{largest}
 use Rattle.grid.specs.Columns.{at, taken, collision, extra, new_columns}
 use Rattle.grid.specs.code.Arrays.{Boxes, Inside, Stands, Tells, Used, used_in, collision_in, extra_in, table_to}
@@ -156,6 +157,38 @@ module _ (rows cols : List ℕ) (used : List (List ℕ)) (y c : ℕ) (ys cs : Li
       met = λ r x h l. used_next r x l (same? y r) (same? c x) ∙ left.met r x h l;
     },
   )
+
+-- ---- one box more, of the first k
+pub taken_more : (rows cols : List ℕ) (k r x : ℕ) → k < length rows → k < length cols →
+    taken (take (suc k) rows) (take (suc k) cols) r x ≡ taken (take k rows) (take k cols) r x || (eqb (at rows k) r && eqb (at cols k) x)
+taken_more [] cols k r x h l = absurd (not-suc-le-zero h)
+taken_more (y ∷ rows) [] k r x h l = absurd (not-suc-le-zero l)
+taken_more (y ∷ rows) (c ∷ cols) zero r x h l = or_false (eqb y r && eqb c x)
+taken_more (y ∷ rows) (c ∷ cols) (suc k) r x h l =
+    ap (λ (b : Bool). (eqb y r && eqb c x) || b) (taken_more rows cols k r x (le_of_suc-le-suc h) (le_of_suc-le-suc l))
+    ∙ or_assoc (eqb y r && eqb c x) (taken (take k rows) (take k cols) r x) (eqb (at rows k) r && eqb (at cols k) x)
+
+-- box k after those before it: the table tells of it too
+module _ (rows cols : List ℕ) (used : List (List ℕ)) (k : ℕ) (hr : k < length rows) (hc : k < length cols) (whole : Whole used) (hy : at rows k < 48) (hx : at cols k < 160) (u : Tells (take k rows) (take k cols) used) where
+  abbrev told : List (List ℕ)
+  told = stored used whole (at rows k) (at cols k) hy hx
+
+  told_next : (r x : ℕ) → r < 48 → x < 160 → (at rows k ≡ r) ⊎ (at rows k ≡ r → ⊥) → (at cols k ≡ x) ⊎ (at cols k ≡ x → ⊥) →
+      used_in told r x ≡ taken (take k rows) (take k cols) r x || (eqb (at rows k) r && eqb (at cols k) x)
+  told_next r x h l (inl e) (inl f) =
+      ap (λ (i : ℕ). used_in told i x) (sym e) ∙ ap (λ (j : ℕ). used_in told (at rows k) j) (sym f)
+      ∙ stored_there used whole (at rows k) (at cols k) hy hx
+      ∙ sym (rw (eq-eqb (at rows k) r e, eq-eqb (at cols k) x f) (or_true (taken (take k rows) (take k cols) r x)))
+  told_next r x h l (inl e) (inr o) =
+      stored_other used whole (at rows k) (at cols k) hy hx r x l (λ q. o q.1) ∙ u r x h l
+      ∙ sym (rw (ne_eqb (at cols k) x o, and_false (eqb (at rows k) r)) (or_false (taken (take k rows) (take k cols) r x)))
+  told_next r x h l (inr o) q =
+      stored_other used whole (at rows k) (at cols k) hy hx r x l (λ q. o q.0) ∙ u r x h l
+      ∙ sym (rw (ne_eqb (at rows k) r o) (or_false (taken (take k rows) (take k cols) r x)))
+
+  -- by the code's bit
+  pub used_more : {v : ℕ} → v ≡ 2 ^ (at cols k % 32) → Tells (take (k + 1) rows) (take (k + 1) cols) (marked used (at rows k) (at cols k / 32) v)
+  used_more e r x h l = rw (e, add-one k, taken_more rows cols k r x hr hc) (told_next r x h l (same? (at rows k) r) (same? (at cols k) x))
 
 -- ---- exactly if a box of that row stands there
 -- a place that is taken has a box

@@ -1,8 +1,7 @@
-// What the programs read: charts written in hexadecimal, one on each line, in the default setting after a `D`; or one chart as it is.
+// Charts written in hexadecimal, one on each line, in the default setting after a `D`: what the programs that run a list of charts read.
 #![tactic(auto)]
 
-ghost use Rattle.std.specs.Prelude.{min, ℕ, List, Option, ◌/◌, ◌≤◌, ◌≡◌, ⊤, length, take, vec_items, OnOk, IfOk, IfSome};
-ghost use Rattle.std.specs.Io.{StartsWith};
+ghost use Rattle.std.specs.Prelude.{min, ℕ, List, Option, ◌/◌, ◌≤◌, ◌≡◌, ⊤, length, take, OnOk, IfSome};
 ghost use Rattle.std.specs.Iterator.{YieldsFirstRef, item_count};
 ghost use Rattle.std.specs.List.{FoldsTo};
 ghost use Rattle.lines.specs.Lines.{digit_of, line_of, lines_of, lines_left, is_default, setting_of, digits_of, decoded, chart_in};
@@ -14,9 +13,6 @@ use std::io::{Read, Write};
 
 // How many bytes of standard input a program that runs a list of charts reads.
 pub const ROOM: u64 = 1048576;
-
-// How many bytes of standard input a program that runs one chart reads.
-const CHART_ROOM: u64 = 8192;
 
 // 1,048,576 zeros: room for a list of charts. The `ensures` gives only the length, which lending the array as a slice needs.
 pub fn space() -> [u8; 1048576]
@@ -154,20 +150,4 @@ pub fn run<P: Program, R: Read + Drop, W: Write, A: Allocator>(
     let mut text = Vec::new(alloc);
     reader.take(room).read_to_end(&mut text)?;
     print_lines::<P, W>(out, &text)
-}
-
-// A chart, as it is and not in hexadecimal: the first 8,192 bytes of what is read; none where reading fails before the first byte.
-// (A board with nothing fitted sends no byte; a read that fails before the first byte is no board. Where one fails later, what came before it is judged.)
-pub fn read_chart<R: Read + Drop, A: Allocator>(
-    reader: R,
-    alloc: A,
-) -> io::Result<Option<Vec<u8, A>>>
-    ensures { IfOk result (λ read. IfSome read (λ chart. IfSome (R.remaining reader) (λ left. StartsWith (take 8192 left) (vec_items chart)))) }
-{
-    let mut chart = Vec::with_capacity(alloc, CHART_ROOM as usize)?;
-    let read = reader.take(CHART_ROOM).read_to_end(&mut chart);
-    if read.is_err() && chart.is_empty() {
-        return Ok(None);
-    }
-    Ok(Some(chart))
 }

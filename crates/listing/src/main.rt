@@ -6,11 +6,13 @@ use chart::Setting;
 use std::io;
 use std::io::{BufWriter, Write};
 
+// (A board with nothing fitted sends no byte; a read that fails before the first byte is no board. Where one fails later, what came before it is judged.)
 fn main(rt: HostRuntime) -> io::Result<()> {
-    let Some(chart) = lines::read_chart(rt.reader(), rt.alloc())? else {
+    let (chart, read) = listings::read_chart(rt.reader(), rt.alloc())?;
+    if read.is_err() && chart.is_empty() {
         eprintln!(rt; "standard input can't be read")?;
         return Ok(());
-    };
+    }
     let mut out = BufWriter::new(rt.alloc(), io::writer(&rt))?;
     listings::print_listing(&mut out, chart.as_slice(), Setting::Strict)?;
     out.flush()

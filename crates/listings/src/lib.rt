@@ -1,7 +1,8 @@
-// The lines of a listing: a sheet, its boxes and its path, or a refusal, as the program `listing` prints them.
+// The lines of a listing: a sheet, its boxes and its path, or a refusal, as the program `listing` prints them. And the chart that it and `draw` read.
 #![tactic(auto)]
 
-ghost use Rattle.std.specs.Prelude.{OnOk, ◌≤◌, length, take};
+ghost use Rattle.std.specs.Prelude.{OnOk, IfOk, IfSome, ◌≡◌, ◌≤◌, length, take, vec_items};
+ghost use Rattle.std.specs.Io.{StartsWith};
 ghost use Rattle.std.specs.Io.KnownBytes.{Appends};
 ghost use Rattle.listings.specs.Listings.{
   size_line,
@@ -15,14 +16,18 @@ ghost use Rattle.listings.specs.Listings.{
 
 use chart::Setting;
 use grid::{BoxRecord, SheetRecord};
+use std::alloc::Allocator;
 use std::io;
-use std::io::Write;
+use std::io::{Read, Write};
 
 // How many labels a box has at most: a chart has at most 64 sources and sinks, and a box 4 lines.
 pub const LABELS: usize = 68;
 
 // Room for the text of any sheet: a sound one's has at most 9,887 bytes.
 const ROOM: usize = 9887;
+
+// How many bytes of standard input a program that runs one chart reads.
+const CHART_ROOM: u64 = 8192;
 
 fn print_size<W: Write>(out: &mut W, s: &SheetRecord) -> io::Result<()>
     ensures { OnOk result (Appends (W.contents out.old) (W.contents out.new) (size_line s.now)) }
@@ -95,4 +100,17 @@ pub fn print_listing<W: Write>(out: &mut W, chart: &[u8], setting: Setting) -> i
         Ok(s) => print_sheet(out, &s),
         Err(why) => writeln!(out, "{}", why.numbers()),
     }
+}
+
+// A chart, as it is and not in hexadecimal: the first 8,192 bytes of what there is to read. Where reading fails, those that came before it, and the error.
+pub fn read_chart<R: Read + Drop, A: Allocator>(
+    reader: R,
+    alloc: A,
+) -> io::Result<(Vec<u8, A>, io::Result<usize>)>
+    ensures whole { IfOk result (λ r. OnOk r.1 (IfSome (R.remaining reader) (λ left. vec_items r.0 ≡ take 8192 left))) }
+    ensures front { IfOk result (λ r. IfSome (R.remaining reader) (λ left. StartsWith (take 8192 left) (vec_items r.0))) }
+{
+    let mut chart = Vec::with_capacity(alloc, CHART_ROOM as usize)?;
+    let read = reader.take(CHART_ROOM).read_to_end(&mut chart);
+    Ok((chart, read))
 }

@@ -7,7 +7,7 @@ use native.Mathlib.Numerals.{add-one}
 use mathlib.Core.Path.{◌≡◌, refl, sym, ap, ◌∙◌}
 use mathlib.Core.Bool.{Bool, true, false, cond, ◌&&◌}
 use mathlib.Core.List.{List, [], ◌∷◌, ◌++◌, append_assoc, append-nil}
-use borrow.Author.Tests.{eqb-true, leb-true}
+use borrow.Author.Tests.{eqb-true, leb-true, lt-ltb, le-ltb}
 use lib.Dec.{eqb, leb, ltb}
 use lib.ListN.{length, get_or, take, drop, length-append}
 use lib.Seq.{take-length, take-add, take-append_seam, drop-append_seam, length-sets}
@@ -23,7 +23,7 @@ use Rattle.grid.proofs.LabelPlaces.{fixed_line}
 use Rattle.std.specs.declared.ops.Range.{Range}
 use Rattle.path.specs.Number.{digits}
 use Rattle.path.specs.Writer.{put}
-use Rattle.path.specs.Label.{stand_in, stand_ins_from, stand_ins_to, stand_ins, stand_in_span}
+use Rattle.path.specs.Label.{debug_text, stand_in, stand_ins_from, stand_ins_to, stand_ins, stand_in_span}
 use Rattle.path.specs.code.StandIns.{shown_in, places_of, digit_of}
 use Rattle.path.proofs.Readings.{both}
 use Rattle.path.proofs.Puts.{put-append}
@@ -56,6 +56,15 @@ plain-characters (b ∷ t) e =
     let a = both (is_text b) (all_of is_text t) e in
     let r = plain-characters t a.1 in
     (plain a.0 r.0, counted-plain b t (text-no-sign b a.0) ∙ ap suc r.1)
+
+-- ---- the fixed texts: a node's Debug text, and a lead's
+pub number-text : (q : ℕ) → q < 32 → stand_in q ≡ debug_text q
+unfolding stand_in
+number-text q h = rw (lt-ltb q 32 h)
+
+pub invalid-text : (t : ℕ) → 0 < t → stand_in (t + 31) ≡ debug_text t ++ ascii "(invalid)"
+unfolding stand_in
+invalid-text t h = let z : t + 31 - 31 ≡ t = omega arith in rw (le-ltb (t + 31) 32 (omega arith), z)
 
 -- ---- some texts, and those after them
 from-split : (q r j : ℕ) → stand_ins_from (q + r) j ≡ stand_ins_from q j ++ stand_ins_from r (j + q)

@@ -1,10 +1,11 @@
 -- The answers of the operations on a path text, from the verdict and what the pass kept. Assumes nothing.
 use mathlib.Core.Path.{◌≡◌, refl, sym, ap, ◌∙◌}
-use mathlib.Core.List.{List, ◌++◌}
+use mathlib.Core.List.{List}
 use Prim.Native.Nat.{ℕ, ◌+◌, ◌≤◌, ◌<◌}
 use native.Mathlib.Omega.{arith}
+use native.Mathlib.Nat.{zero-add}
 use borrow.Author.Tests.{lt-ltb, le-ltb}
-use lib.ListN.{length, drop}
+use lib.ListN.{length, get_or, set, take}
 use Rattle.std.specs.Prelude.{Result, Ok, Err}
 use Rattle.refusals.specs.declared.TextRefusal.{TextRefusal}
 use Rattle.refusals.specs.declared.TextRefusal.TheVariants.{NotThere, ShortBuffer}
@@ -18,7 +19,7 @@ use Rattle.path.specs.code.Pass.{pass_to, drawn_kept}
 use Rattle.path.specs.Writer.{put}
 use Rattle.path.specs.Answers.{count_of, given_of, written_of, left_of}
 use Rattle.path.proofs.Readings.{read-text}
-use Rattle.path.proofs.Puts.{put-parts, refuses, does}
+use Rattle.path.proofs.Puts.{put_next, refuses, does}
 use Rattle.path.proofs.Wholes.{read-given, count-given, kept-given, range_given}
 
 module _ (k : ℕ) (s : List ℕ) (m : Pass) (v : Result (Unit {0}) TextRefusal) (e : m ≡ pass_to k s (length s)) (f : v ≡ verdict_of (length s) m.stand) where
@@ -60,8 +61,9 @@ module _ (k : ℕ) (s : List ℕ) (m : Pass) (v : Result (Unit {0}) TextRefusal)
     pub again-short : (buf : List ℕ) → length buf < length s → (Err (ShortBuffer (length s)) ≡ written_of buf (read s)) × (buf ≡ left_of buf (read s))
     again-short buf h = rw (read-fine, same_text) (refuses buf 0 s (length s) refl (omega arith))
 
-    pub again-done : (buf b : List ℕ) → length s ≤ length buf → b ≡ s ++ drop (length s) buf → (Ok (length s) ≡ written_of buf (read s)) × (b ≡ left_of buf (read s))
-    again-done buf b h q =
-        let z : length s ≡ 0 + length s = omega arith in
-        let p : b ≡ put buf 0 s = q ∙ ap (λ (i : ℕ). s ++ drop i buf) z ∙ sym (put-parts s buf 0 (omega arith)) in
-        rw (read-fine, same_text) (does buf 0 s (length s) refl b (omega arith) p)
+    pub again-done : (buf b : List ℕ) → length s ≤ length buf → b ≡ put buf 0 s → (Ok (length s) ≡ written_of buf (read s)) × (b ≡ left_of buf (read s))
+    again-done buf b h q = rw (read-fine, same_text) (does buf 0 s (length s) refl b (omega arith) q)
+
+-- ---- a copy, byte by byte
+pub copy_next : (s buf : List ℕ) (i : ℕ) → i < length s → set (put buf 0 (take i s)) i (get_or s i 0) ≡ put buf 0 (take (i + 1) s)
+copy_next s buf i h = ap (λ (z : ℕ). set (put buf 0 (take i s)) z (get_or s i 0)) (sym (zero-add i)) ∙ put_next s buf 0 i h

@@ -2,8 +2,9 @@
 // A sheet and a path text each give segments or a refusal (`sheet_answer`, `read`); the promises say what of these is handed out or written, and that `read` judges a text in document 01's words.
 #![tactic(auto)]
 
-ghost use Rattle.std.specs.Prelude.{◌≡◌};
+ghost use Rattle.std.specs.Prelude.{◌≡◌, ◌≤◌, length};
 ghost use Rattle.path.specs.Reader.{read};
+ghost use Rattle.path.specs.Writer.{put};
 ghost use Rattle.path.specs.Answers.{sheet_answer};
 ghost use Rattle.path.specs.Promises.{IsSegment, IsWritten, IsReading, IsCount, IsRewritten};
 ghost use Rattle.grid.specs.Labelled.{labelled, label_place_of};
@@ -102,6 +103,16 @@ pub fn text_segment(text: &[u8], k: usize) -> Result<Segment, TextRefusal>
     Err(TextRefusal::NotThere)
 }
 
+// The text at the start of a buffer that it fits. (By bytes: `copy_from_slice` would be the archive's one call of memmove.)
+fn copy(text: &[u8], buf: &mut [u8])
+    requires { length text.now ≤ length buf.old }
+    ensures { buf.new ≡ put buf.old 0 text.now }
+{
+    for i in 0..text.len() {
+        buf[i] = text[i];
+    }
+}
+
 // A path text read and written again: 17 to 19, then 16. A text that is read is the text of its segments, so its bytes are copied.
 pub fn rewrite(text: &[u8], buf: &mut [u8]) -> Result<usize, TextRefusal>
     ensures written { IsRewritten text.now buf.old result buf.new }
@@ -113,7 +124,7 @@ pub fn rewrite(text: &[u8], buf: &mut [u8]) -> Result<usize, TextRefusal>
     if n > buf.len() {
         return Err(TextRefusal::ShortBuffer(n));
     }
-    buf[..n].copy_from_slice(text);
+    copy(text, buf);
     Ok(n)
 }
 

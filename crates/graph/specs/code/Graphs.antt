@@ -1,6 +1,6 @@
 -- What an answer of `graph` or `completed` stands for, what the crates above take of it (`graphs-of`, `completed-answers` of proofs/Tabled), and what private functions answer.
 -- Assumes nothing.
-use Rattle.std.specs.Prelude.{ℕ, ◌≤◌, ◌<◌, ◌≡◌, List, length, replicate, Result, Ok, Err}
+use Rattle.std.specs.Prelude.{ℕ, ◌≤◌, ◌<◌, ◌≡◌, ⊤, List, length, replicate, Result, Ok, Err}
 use Rattle.laws.specs.Lists.{All, owned_by, tabulate, joined}
 use Rattle.chart.specs.declared.Board.{Board as BoardTables}
 use Rattle.chart.specs.declared.Setting.{Setting}
@@ -11,6 +11,8 @@ use Rattle.chart.specs.code.Filled.{board_of, tables_of as board_tables}
 use Rattle.chart.specs.code.Reads.{Sound as SoundBoard}
 use Rattle.graph.specs.declared.Item.{Item}
 use Rattle.graph.specs.Items.{Items}
+use Rattle.graph.specs.declared.Name.{Name}
+use Rattle.graph.specs.declared.Name.TheVariants.{Nothing, Number, Invalid}
 use Rattle.graph.specs.declared.Tables.{Tables}
 use Rattle.graph.specs.Graph.{given_graph}
 use Rattle.graph.specs.Joining.{uncut}
@@ -32,13 +34,20 @@ abbrev pub graphed_of : Result Tables Refusal → Graphed
 graphed_of (Ok t) = ready (dag_in t)
 graphed_of (Err why) = refusal why
 
+-- what a name may be: none, a given node's number, or a target that is no node
+abbrev pub NameWithin : Name → Type 0
+NameWithin Nothing = ⊤
+NameWithin (Number q) = q < 32
+NameWithin (Invalid t) = (0 < t) × (t < 256)
+
 -- the tables, for the crates above: the counts are within the arrays, each owner and each target is a node,
--- and a mark is held as 88 at most
+-- a mark is held as 88 at most, and a name is none, a given node's number, or a target that is 1 to 255
 pub record Sound (t : Tables) : Type 0 where
   pub linked : Linked t
   pub line_room : t.lines.count ≤ 128
   pub source_marks : All (λ (x : Item). x.mark ≤ 88) (items_of t.sources)
   pub sink_marks : All (λ (x : Item). x.mark ≡ 0) (items_of t.sinks)
+  pub names : All NameWithin t.names
 
 -- what the crates above take of the graph of the chart s in the setting w: it follows from `IsGraph` (`graphs-of` of proofs/Tabled)
 pub record Graphs (w : Setting) (s : List ℕ) (r : Result Tables Refusal) : Type 0 where

@@ -30,6 +30,7 @@ shape_in n to bounds = tabulate (leads_at to bounds) 0 n
 pub record Led (n : ℕ) (to bounds : List ℕ) : Type 0 where
   pub long : length to ≡ 176
   pub nodes : n ≤ 48
+  pub first : at bounds 0 ≡ 0
   pub rising : (i : ℕ) → i < 2 * n → at bounds i ≤ at bounds (i + 1)
   pub few : at bounds (2 * n) ≤ 176
   pub node : (k : ℕ) → k < at bounds (2 * n) → at to k < n

@@ -1,10 +1,8 @@
 -- `rewrite` meets its contract: by the verdict; what is read is the text of its segments (`Texts`). Assumes nothing.
 use Rattle.path.proofs.Texts.{again-short, again-done, again-refused}
 use native.Mathlib.Omega.{arith}
-use mathlib.Core.List.{◌++◌}
-use lib.ListN.{length, drop}
 use Rattle.path.proofs.Promises.{reading, is-rewritten}
-use mathlib.Core.Path.{◌≡◌, ap, ◌∙◌}
+use mathlib.Core.Path.{◌≡◌, ◌∙◌}
 use borrow.Author.Rules.{rules}
 use Rattle.std.specs.Prelude.{Err}
 use Rattle.path.proofs.rewrite.Goals as goal
@@ -20,4 +18,4 @@ returns-then-n-buf c =
 
 pub returns : goal.returns
 returns c =
-    record { written = is-rewritten _ _ _ _ (again-done 0 c.args.text.now c.pass_over-m.result c.judge.result c.pass_over-m.ensures c.judge.ensures c.in_ok-judge.was c.args.buf.now _ (omega arith) (ap (λ t. t ++ drop (length c.args.text.now) c.args.buf.now) c.copy_from_slice.ensures.after)); reading = reading c.args.text.now }
+    record { written = is-rewritten _ _ _ _ (again-done 0 c.args.text.now c.pass_over-m.result c.judge.result c.pass_over-m.ensures c.judge.ensures c.in_ok-judge.was c.args.buf.now _ (omega arith) c.copy.ensures); reading = reading c.args.text.now }
