@@ -215,13 +215,11 @@ fn draw<W: Write, E: Write>(out: &mut W, err: &mut E, chart: &[u8]) -> io::Resul
     }
 }
 
-// (A board with nothing fitted sends no byte; a read that fails before the first byte is no board. Where one fails later, what came before it is judged.)
 fn main(rt: HostRuntime) -> io::Result<()> {
-    let (chart, read) = listings::read_chart(rt.reader(), rt.alloc())?;
-    if read.is_err() && chart.is_empty() {
+    let Some(chart) = listings::chart_sent(listings::read_chart(rt.reader(), rt.alloc())?) else {
         eprintln!(rt; "standard input can't be read")?;
         return Ok(());
-    }
+    };
     let mut out = BufWriter::new(rt.alloc(), io::writer(&rt))?;
     draw(&mut out, &mut rt.stderr(), chart.as_slice())?;
     out.flush()

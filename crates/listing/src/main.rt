@@ -6,13 +6,11 @@ use chart::Setting;
 use std::io;
 use std::io::{BufWriter, Write};
 
-// (A board with nothing fitted sends no byte; a read that fails before the first byte is no board. Where one fails later, what came before it is judged.)
 fn main(rt: HostRuntime) -> io::Result<()> {
-    let (chart, read) = listings::read_chart(rt.reader(), rt.alloc())?;
-    if read.is_err() && chart.is_empty() {
+    let Some(chart) = listings::chart_sent(listings::read_chart(rt.reader(), rt.alloc())?) else {
         eprintln!(rt; "standard input can't be read")?;
         return Ok(());
-    }
+    };
     let mut out = BufWriter::new(rt.alloc(), io::writer(&rt))?;
     listings::print_listing(&mut out, chart.as_slice(), Setting::Strict)?;
     out.flush()

@@ -1,7 +1,7 @@
 // The lines of a listing: a sheet, its boxes and its path, or a refusal, as the program `listing` prints them. And the chart that it and `draw` read.
 #![tactic(auto)]
 
-ghost use Rattle.std.specs.Prelude.{OnOk, IfOk, IfSome, ◌≡◌, ◌≤◌, length, take, vec_items};
+ghost use Rattle.std.specs.Prelude.{None, Some, OnOk, IfOk, IfSome, ◌≡◌, ◌≤◌, ◌&&◌, cond, eqb, is_err, length, take, vec_items};
 ghost use Rattle.std.specs.Io.{StartsWith};
 ghost use Rattle.std.specs.Io.KnownBytes.{Appends};
 ghost use Rattle.listings.specs.Listings.{
@@ -113,4 +113,16 @@ pub fn read_chart<R: Read + Drop, A: Allocator>(
     let mut chart = Vec::with_capacity(alloc, CHART_ROOM as usize)?;
     let read = reader.take(CHART_ROOM).read_to_end(&mut chart);
     Ok((chart, read))
+}
+
+// The chart that a board sent, of what `read_chart` answers: none where reading failed before the first byte.
+// (A board with nothing fitted sends no byte; a read that fails before the first byte is no board. Where one fails later, what came before it is judged.)
+pub fn chart_sent<A: Allocator>(answer: (Vec<u8, A>, io::Result<usize>)) -> Option<Vec<u8, A>>
+    ensures { result ≡ cond (is_err answer.1 && eqb (length (vec_items answer.0)) 0) None (Some answer.0) }
+{
+    let (chart, read) = answer;
+    if read.is_err() && chart.is_empty() {
+        return None;
+    }
+    Some(chart)
 }
