@@ -20,7 +20,7 @@ use Rattle.graph.specs.Graph.{Edge, Graph, bare, node_at}
 use Rattle.chart.specs.declared.Setting.{Setting}
 use Rattle.graph.specs.Graphed.{Graphed, ready, refusal, graphed}
 use Rattle.graph.specs.Outcome.{sources_from, sinks_from, tables_of, answer_of}
-use Rattle.graph.specs.code.Graphs.{Graphs}
+use Rattle.graph.specs.code.Graphs.{IsAnswer}
 use Rattle.graph.specs.Shape.{incidents_at, targets, incidents_of, shape_of}
 use Rattle.graph.specs.Ends.{lead_of, ends_in, targets_of, ends_of, incidents_in, shape_from, Linked}
 use Rattle.graph.specs.code.Tables.{edge_of, owned, items_of, node_of, lines_of, graph_from, graph_of, Below, Aimed}
@@ -86,7 +86,7 @@ module _ (t : Tables) where
   items-long (ready d) e = let z : tables_of d ≡ t = cc in rw (← z) (length-padded 88 no_item (sources_from 0 d.graph), length-padded 88 no_item (sinks_from 0 d.graph))
   items-long (refusal why) e = let z : ◌≡◌ {A = ℕ} 0 1 = cc in absurd (omega arith)
 
-  module _ (w : Setting) (s : List ℕ) (r : Result Tables Refusal) (a : Graphs w s r) (e : r ≡ Ok t) where
+  module _ (w : Setting) (s : List ℕ) (r : Result Tables Refusal) (a : IsAnswer (graphed w s) r) (e : r ≡ Ok t) where
     pub sources-long : length t.sources.items ≡ 88
     sources-long = (items-long (graphed w s) (sym a.whole ∙ e)).0
 

@@ -209,7 +209,8 @@ box-byte w s b d l k h i =
     let ps : Board = l.board in
     rw (l.kept k h i) (lines-off ps 256 (omega (arith, (accepts w s ps l.read).nodes)) (given-bytes w s b ps l.read) k h i)
 
-module _ (w : Setting) (s : List ℕ) (bytes : Bytes s) (t : Tables) (b : Linked t) (e : t ≡ tables_of (dag_in t)) where
+-- ---- the tables of a graph that is drawn
+module _ (w : Setting) (s : List ℕ) (t : Tables) (e : t ≡ tables_of (dag_in t)) where
   abbrev d : Dag
   d = dag_in t
 
@@ -226,13 +227,19 @@ module _ (w : Setting) (s : List ℕ) (bytes : Bytes s) (t : Tables) (b : Linked
     lows : All (λ (x : Node). All Low x.sources) u
     lows = all_from (λ (x : Node). All Low x.sources) u bare (λ p. all_map (low-mark u p l.sinks) (node_at u p).sources (l.marks p))
 
-    few : t.lines.count ≤ 128
-    few =
+    pub line-room : t.lines.count ≤ 128
+    line-room =
         let z : length (texts_from 0 u) ≡ length (texts_from 0 (cutting (uncut l.board)).graph) = ap (λ (c : Dag). length (texts_from 0 c.graph)) l.walk in
         omega (arith, ap (λ (y : Tables). y.lines.count) e, z, few-lines w s l.board l.read _ (cut-lines l.board))
 
-    names : All NameWithin t.names
-    names =
+    pub source-marks : All (λ (x : Item). x.mark ≤ 88) (items_of t.sources)
+    source-marks = rw items-are (all-flat item_of (λ (x : Node). x.sources) (length u) Low (λ (x : Item). x.mark ≤ 88) (λ p y h k. k) 0 u (omega arith) lows)
+
+    pub sink-marks : All (λ (x : Item). x.mark ≡ 0) (items_of t.sinks)
+    sink-marks = rw sinks-are (all-flat item_of (λ (x : Node). x.sinks) (length u) Plain (λ (x : Item). x.mark ≡ 0) (λ p y h k. ap held_mark k) 0 u (omega arith) l.unmarked)
+
+    names : Bytes s → All NameWithin t.names
+    names bytes =
         let ps : Board = l.board in
         let a : Accepted w s ps = accepts w s ps l.read in
         let g : Graph = (cutting (uncut ps)).graph in
@@ -247,33 +254,32 @@ module _ (w : Setting) (s : List ℕ) (bytes : Bytes s) (t : Tables) (b : Linked
         rw (ap (λ (y : Tables). y.names) e)
         (all-padded NameWithin 48 Nothing (names_of u) tt (rw z (all-names (us ++ (offs ps ++ (cut_lined ps).rest)) all)))
 
-    pub tables-sound : Sound t
-    tables-sound =
-        record {
-          linked = b;
-          line_room = few;
-          source_marks = rw items-are (all-flat item_of (λ (x : Node). x.sources) (length u) Low (λ (x : Item). x.mark ≤ 88) (λ p y h k. k) 0 u (omega arith) lows);
-          sink_marks = rw sinks-are (all-flat item_of (λ (x : Node). x.sinks) (length u) Plain (λ (x : Item). x.mark ≡ 0) (λ p y h k. ap held_mark k) 0 u (omega arith) l.unmarked);
-          names = names;
-        }
+-- a chart of bytes: the names too
+module _ (w : Setting) (s : List ℕ) (bytes : Bytes s) (t : Tables) (b : Linked t) (e : t ≡ tables_of (dag_in t)) (l : Laws w s (dag_in t)) where
+  pub tables-sound : Sound t
+  tables-sound = record { linked = b; line_room = line-room w s t e l; source_marks = source-marks w s t e l; sink_marks = sink-marks w s t e l; names = names w s t e l bytes }
+
+-- ---- an answer's tables
+module _ (w : Setting) (s : List ℕ) (r : Result Tables Refusal) (a : IsAnswer (graphed w s) r) (t : Tables) (e : r ≡ Ok t) where
+  drawn-is : graphed w s ≡ ready (dag_in t)
+  drawn-is = sym a.graphs ∙ ap graphed_of e
+
+  pub tables-are : t ≡ tables_of (dag_in t)
+  tables-are = let z : Ok t ≡ answer_of (ready (dag_in t)) = sym e ∙ a.whole ∙ ap answer_of drawn-is in cc
+
+  pub laws-of : Laws w s (dag_in t)
+  laws-of = graph-laws w s (dag_in t) drawn-is
 
 -- ---- the contract of `graph`
 module _ (w : Setting) (s : List ℕ) (bytes : Bytes s) (r : Result Tables Refusal) (a : IsAnswer (graphed w s) r) where
-  module _ (t : Tables) (e : r ≡ Ok t) where
-    drawn-is : graphed w s ≡ ready (dag_in t)
-    drawn-is = sym a.graphs ∙ ap graphed_of e
-
-    tables-are : t ≡ tables_of (dag_in t)
-    tables-are = let z : Ok t ≡ answer_of (ready (dag_in t)) = sym e ∙ a.whole ∙ ap answer_of drawn-is in cc
-
-    laws-of : Laws w s (dag_in t)
-    laws-of = graph-laws w s (dag_in t) drawn-is
-
-    sound-by : Sound t
-    sound-by = tables-sound w s bytes t (a.linked t e) tables-are laws-of
-
   pub is-graphs : Graphs w s r
-  is-graphs = record { graphs = a.graphs; whole = a.whole; sound = sound-by; laws = laws-of }
+  is-graphs =
+      record {
+        graphs = a.graphs;
+        whole = a.whole;
+        sound = λ t e. tables-sound w s bytes t (a.linked t e) (tables-are w s r a t e) (laws-of w s r a t e);
+        laws = laws-of w s r a;
+      }
 
   pub is-graph : IsGraph w s r
   is-graph =

@@ -1,4 +1,4 @@
--- The tables of a drawn graph, and of a completed one, hold that graph. So what the crates above take follows from the promises of `graph` (`Graphs`) and `completed`.
+-- The tables of a drawn graph, and of a completed one, hold that graph. So what the crates above take follows from the promises of `graph` (`IsAnswer`) and `completed`.
 -- Assumes nothing.
 use Prim.Native.Nat.{ℕ, ◌+◌, ◌%◌, ◌≤◌, ◌<◌}
 use native.Mathlib.Omega.{arith}
@@ -227,8 +227,12 @@ answers w s (ready d) e = fitting w s d (drawn-tabled w s d (graph-laws w s d e)
 answers w s (refusal why) e = none_answers why
 
 -- what the crates above take from the promise of `graph`
+pub is-answer : (w : Setting) (s : List ℕ) (r : Result Tables Refusal) → IsGraph w s r → IsAnswer (graphed w s) r
+is-answer w s r i = rw i.whole (answers w s (graphed w s) refl)
+
+-- and with the names
 pub graphs-of : (w : Setting) (s : List ℕ) (r : Result Tables Refusal) → IsGraph w s r → Graphs w s r
-graphs-of w s r i = is-graphs w s i.bytes r (rw i.whole (answers w s (graphed w s) refl))
+graphs-of w s r i = is-graphs w s i.bytes r (is-answer w s r i)
 
 -- ---- the completed graph
 module _ (s : List ℕ) (r : Result Tables Refusal) (i : IsCompleted s r) where

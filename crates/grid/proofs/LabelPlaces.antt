@@ -27,7 +27,7 @@ use Rattle.graph.specs.Graphed.{Dag, Graphed, ready as cut, refusal as uncut, gr
 use Rattle.graph.specs.Joining.{leads_of}
 use Rattle.graph.specs.Shape.{shape_of}
 use Rattle.graph.specs.code.Tables.{items_of, lines_of, graph_of}
-use Rattle.graph.specs.code.Graphs.{dag_in, Graphs}
+use Rattle.graph.specs.code.Graphs.{dag_in, IsAnswer}
 use Rattle.graph.specs.Laws.{texts_at, Begins, Texts, Named, Laws}
 use Rattle.graph.proofs.AimLaws.{all_in}
 use Rattle.graph.proofs.Gathers.{Bytes, graph-laws, box-byte}
@@ -72,7 +72,7 @@ fits v s x y d r c false b e f h =
     let g : answer_of x y (sheeted v s x y) ≡ Err TooFar = rw (c, e) in
     let z : ◌≡◌ {A = ℕ} 0 1 = cc in absurd (omega arith)
 
-module _ (v : Setting) (s : List ℕ) (x y : ℕ) (o : Result SheetRecord Refusal) (q : Made v s x y o) (w : Result Tables Refusal) (a : Graphs v s w) (t : Tables) (h : w ≡ Ok t) where
+module _ (v : Setting) (s : List ℕ) (x y : ℕ) (o : Result SheetRecord Refusal) (q : Made v s x y o) (w : Result Tables Refusal) (a : IsAnswer (graphed v s) w) (t : Tables) (h : w ≡ Ok t) where
   module _ (r : SheetRecord) (answered : o ≡ Ok r) where
     cut-is : graphed v s ≡ cut (dag_in t)
     cut-is = sym a.graphs ∙ rw h
@@ -134,7 +134,7 @@ module _ (v : Setting) (s : List ℕ) (x y : ℕ) (o : Result SheetRecord Refusa
             let f : List ℕ = first_columns (shape_of g) in
             e
             ∙ ap (λ (r : SheetRecord). node_label (node_at g k) (get_or r.boxes k no_box).x (get_or r.boxes k no_box).y i) sheet-is
-            ∙ label_sheet g t.cuts (columns (shape_of g) (heights (shape_of g)) f) (heights (shape_of g)) x y (omega (arith, many, (a.sound t h).linked.nodes)) k i (omega (arith, many))
+            ∙ label_sheet g t.cuts (columns (shape_of g) (heights (shape_of g)) f) (heights (shape_of g)) x y (omega (arith, many, (a.linked t h).nodes)) k i (omega (arith, many))
 
         pub place_answer : label_place_of (ready_or_15 p) ≡ label_place_of (labelled v s x y k i)
         place_answer = answer-by p place_is

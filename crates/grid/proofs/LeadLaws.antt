@@ -203,10 +203,11 @@ module _ (n : ℕ) (to bounds : List ℕ) where
   unfolding shape_in
   leads-at p h = get_d_tabulate (leads_at to bounds) 0 n p no_incidents h ∙ ap (leads_at to bounds) (zero-add p)
 
-  module _ (led : Led n to bounds) where
+  -- where the bounds rise
+  module _ (rising : (i : ℕ) → i < 2 * n → at bounds i ≤ at bounds (i + 1)) where
     rise : (d i : ℕ) → i + d ≤ 2 * n → at bounds i ≤ at bounds (i + d)
     rise zero i h = let e : i + 0 ≡ i = omega arith in rw e (omega arith)
-    rise (suc d) i h = let e : i + suc d ≡ i + d + 1 = omega arith in rw e (omega (arith, rise d i (omega arith), led.rising (i + d) (omega arith)))
+    rise (suc d) i h = let e : i + suc d ≡ i + d + 1 = omega arith in rw e (omega (arith, rise d i (omega arith), rising (i + d) (omega arith)))
 
     -- the bounds of node p
     module _ (p : ℕ) (h : p < n) where
@@ -214,7 +215,7 @@ module _ (n : ℕ) (to bounds : List ℕ) where
       led-sources = rise 1 (2 * p) (omega arith)
 
       pub led-sinks : at bounds (2 * p + 1) ≤ at bounds (2 * p + 2)
-      led-sinks = let e : 2 * p + 1 + 1 ≡ 2 * p + 2 = omega arith in omega (arith, led.rising (2 * p + 1) (omega arith), ap (at bounds) e)
+      led-sinks = let e : 2 * p + 1 + 1 ≡ 2 * p + 2 = omega arith in omega (arith, rising (2 * p + 1) (omega arith), ap (at bounds) e)
 
       pub led-within : at bounds (2 * p + 2) ≤ at bounds (2 * n)
       led-within = let e : 2 * p + 2 + (2 * n - (2 * p + 2)) ≡ 2 * n = omega arith in omega (arith, rise (2 * n - (2 * p + 2)) (2 * p + 2) (omega arith), ap (at bounds) e)

@@ -25,9 +25,9 @@ use Rattle.graph.specs.Ends.{ends_in, shape_from, Linked}
 use Rattle.graph.specs.Graphed.{Dag, ready as cut, refusal as refused, graphed, leads_read, leads_in}
 use Rattle.graph.specs.Joining.{leads_of}
 use Rattle.graph.specs.code.Tables.{items_of, lines_of, graph_of}
-use Rattle.graph.specs.code.Graphs.{dag_in, Sound, Graphs}
+use Rattle.graph.specs.code.Graphs.{dag_in, IsAnswer}
 use Rattle.graph.specs.Laws.{Aimed, Laws}
-use Rattle.graph.proofs.Gathers.{graph-laws}
+use Rattle.graph.proofs.Gathers.{graph-laws, line-room, tables-are, laws-of}
 use Rattle.graph.proofs.Cuts.{length-graph}
 use Rattle.graph.proofs.EndsLaws.{shape-held, sources-long, sinks-long, shape-long}
 use Rattle.order.specs.Chains.{columns as first_columns}
@@ -176,18 +176,15 @@ module _ (n leads cuts : ℕ) (g : Graph) (sh : Sheet) (t : SheetTheorem n leads
       }
 
 -- ---- what the lower crates promise
-module _ (v : Setting) (s : List ℕ) (w : Result Tables Refusal) (a : Graphs v s w) (t : Tables) (o : w ≡ Ok t) (first : Table ℕ 48) (f : first ≡ unwrap_or (columns_in t.n (ends_in t.sources) (ends_in t.sinks)) (empty 48 0)) where
-  sound : Sound t
-  sound = a.sound t o
-
+module _ (v : Setting) (s : List ℕ) (w : Result Tables Refusal) (a : IsAnswer (graphed v s) w) (t : Tables) (o : w ≡ Ok t) (first : Table ℕ 48) (f : first ≡ unwrap_or (columns_in t.n (ends_in t.sources) (ends_in t.sinks)) (empty 48 0)) where
   abbrev firsts : List ℕ
   firsts = first_columns (shape_of (graph_of t))
 
   from : Linked t.n (ends_in t.sources)
-  from = sources-linked t (sources-long t v s w a o) (sinks-long t v s w a o) sound.linked
+  from = sources-linked t (sources-long t v s w a o) (sinks-long t v s w a o) (a.linked t o)
 
   to : Linked t.n (ends_in t.sinks)
-  to = sinks-linked t (sources-long t v s w a o) (sinks-long t v s w a o) sound.linked
+  to = sinks-linked t (sources-long t v s w a o) (sinks-long t v s w a o) (a.linked t o)
 
   -- the table of the first columns
   abbrev held : Table ℕ 48
@@ -205,10 +202,10 @@ module _ (v : Setting) (s : List ℕ) (w : Result Tables Refusal) (a : Graphs v 
   -- the first columns that the code hands on
   pub first-is : take t.n first.items ≡ firsts
   first-is =
-      let long : length firsts ≡ t.n = size t (sources-long t v s w a o) (sinks-long t v s w a o) sound.linked in
+      let long : length firsts ≡ t.n = size t (sources-long t v s w a o) (sinks-long t v s w a o) (a.linked t o) in
       ap (λ (cs : Table ℕ 48). take t.n cs.items) (held-is ∙ ap (λ (g : Shape). columns_held (first_columns g)) (shape-held t))
       ∙ ap (λ (k : ℕ). take k (columns_held firsts).items) (sym long)
-      ∙ take-padded 48 0 firsts (omega (arith, long, sound.linked.nodes))
+      ∙ take-padded 48 0 firsts (omega (arith, long, (a.linked t o).nodes))
 
   pub firsts-are : FirstColumns t.n (take t.n first.items)
   firsts-are =
@@ -219,7 +216,7 @@ module _ (v : Setting) (s : List ℕ) (w : Result Tables Refusal) (a : Graphs v 
       }
 
   pub seated : Seated t
-  seated = record { linked = sound.linked; line_room = sound.line_room; sources_long = sources-long t v s w a o; sinks_long = sinks-long t v s w a o }
+  seated = record { linked = a.linked t o; line_room = line-room v s t (tables-are v s w a t o) (laws-of v s w a t o); sources_long = sources-long t v s w a o; sinks_long = sinks-long t v s w a o }
 
 -- ---- the stages one after the other
 module _ (t : Tables) (z : Seated t) (from to : Ends) (e : from ≡ ends_in t.sources) (e₂ : to ≡ ends_in t.sinks) where
@@ -321,7 +318,7 @@ pub leads-are : (v : Setting) (s : List ℕ) (d : Dag) (l : Laws v s d) → lead
 unfolding leads_in
 leads-are v s d l = sym (ap leads_read l.read)
 
-module _ (v : Setting) (s : List ℕ) (x y : ℕ) (w : Result Tables Refusal) (a : Graphs v s w) where
+module _ (v : Setting) (s : List ℕ) (x y : ℕ) (w : Result Tables Refusal) (a : IsAnswer (graphed v s) w) where
   none-cut : {A : Type 0} (why : Refusal) (d : Dag) → refused why ≡ cut d → A
   none-cut why d e = let z : ◌≡◌ {A = ℕ} 0 1 = cc in absurd (omega arith)
 
@@ -345,7 +342,7 @@ module _ (v : Setting) (s : List ℕ) (x y : ℕ) (w : Result Tables Refusal) (a
     drawing = sheet g t.cuts first
 
     laws : Laws v s (dag_in t)
-    laws = a.laws t o
+    laws = laws-of v s w a t o
 
     many : length g ≡ t.n
     many = length-graph t.n (lines_of t) (items_of t.sources) (items_of t.sinks)

@@ -14,7 +14,7 @@ use Rattle.graph.specs.declared.Tables.{Tables}
 use Rattle.graph.specs.Items.{Ends}
 use Rattle.chart.specs.declared.Setting.{Setting}
 use Rattle.graph.specs.Graphed.{ready as cut, refusal as refused, graphed}
-use Rattle.graph.specs.code.Graphs.{Graphs}
+use Rattle.graph.specs.code.Graphs.{IsAnswer}
 use Rattle.graph.specs.Shape.{Shape, shape_of}
 use Rattle.graph.specs.Ends.{ends_in, shape_from, Linked as EndsLinked}
 use Rattle.graph.specs.code.Tables.{Linked, graph_of}
@@ -70,7 +70,7 @@ module _ (t : Tables) (long : length t.sources.items ≡ 88) (long₂ : length t
   once = rw (size, ← shape-held t) (once_in t.n (ends_in t.sources) (ends_in t.sinks) sources-linked sinks-linked)
 
 -- ---- what `order` promises, from what `graph` does
-module _ (w : Setting) (s : List ℕ) (o : Result Tables Refusal) (a : Graphs w s o) where
+module _ (w : Setting) (s : List ℕ) (o : Result Tables Refusal) (a : IsAnswer (graphed w s) o) where
   refused_none : {A : Type 0} (why : Refusal) (cs : List ℕ) → refusal why ≡ ready cs → A
   refused_none why cs e = let z : ◌≡◌ {A = ℕ} 0 1 = cc in absurd (omega arith)
 
@@ -94,5 +94,5 @@ module _ (w : Setting) (s : List ℕ) (o : Result Tables Refusal) (a : Graphs w 
         refused = λ u f. is ∙ ap answer_of f;
         numbers = λ u f. ap numbers_in (is ∙ ap answer_of f);
         each = λ cs h.
-            subst (λ (ds : List ℕ). EachOnce (length ds) ds) (ready-same (columns (shape_of (graph_of t))) cs (rw g at h)) (once t (sources-long t w s o a q) (sinks-long t w s o a q) (a.sound t q).linked);
+            subst (λ (ds : List ℕ). EachOnce (length ds) ds) (ready-same (columns (shape_of (graph_of t))) cs (rw g at h)) (once t (sources-long t w s o a q) (sinks-long t w s o a q) (a.linked t q));
       }

@@ -1,4 +1,4 @@
--- What an answer of `graph` or `completed` stands for, what the crates above take of it (`graphs-of`, `completed-answers` of proofs/Tabled), and what private functions answer.
+-- What an answer of `graph` or `completed` stands for, what the crates above take of it (`is-answer`, `completed-answers` of proofs/Tabled) or may take with the names (`graphs-of`), and what private functions answer.
 -- Assumes nothing.
 use Rattle.std.specs.Prelude.{ℕ, ◌≤◌, ◌<◌, ◌≡◌, ⊤, List, length, replicate, Result, Ok, Err}
 use Rattle.laws.specs.Lists.{All, owned_by, tabulate, joined}
@@ -40,7 +40,7 @@ NameWithin Nothing = ⊤
 NameWithin (Number q) = q < 32
 NameWithin (Invalid t) = (0 < t) × (t < 256)
 
--- the tables, for the crates above: the counts are within the arrays, each owner and each target is a node,
+-- the tables: the counts are within the arrays, each owner and each target is a node,
 -- a mark is held as 88 at most, and a name is none, a given node's number, or a target that is 1 to 255
 pub record Sound (t : Tables) : Type 0 where
   pub linked : Linked t
@@ -49,7 +49,7 @@ pub record Sound (t : Tables) : Type 0 where
   pub sink_marks : All (λ (x : Item). x.mark ≡ 0) (items_of t.sinks)
   pub names : All NameWithin t.names
 
--- what the crates above take of the graph of the chart s in the setting w: it follows from `IsGraph` (`graphs-of` of proofs/Tabled)
+-- the graph of the chart s in the setting w, and its tables with the names: it follows from `IsGraph` (`graphs-of` of proofs/Tabled)
 pub record Graphs (w : Setting) (s : List ℕ) (r : Result Tables Refusal) : Type 0 where
   -- the answer and the graph are exactly the definition's
   pub graphs : graphed_of r ≡ graphed w s

@@ -9,7 +9,7 @@ use Rattle.grid.specs.code.Rendered.{Seated}
 use Rattle.grid.specs.Labelled.{ready_or_15, labelled, label_place_of}
 use Rattle.grid.proofs.Sheets.{Made, seated, firsts-are, sheet-is, sheet-refused}
 use Rattle.grid.proofs.LabelPlaces.{sited, place-past, place_answer, place-refused}
-use Rattle.graph.proofs.Tabled.{graphs-of}
+use Rattle.graph.proofs.Tabled.{is-answer}
 use Rattle.grid.proofs.label_place.Goals as goal
 use Rattle.grid.proofs.label_place.Goals.{After-sheet_of-sheet, After-label_at, Else-g-k}
 
@@ -18,13 +18,13 @@ laid : (c : After-sheet_of-sheet) → let a = c.args in Made a.setting a.chart.n
 laid c =
     let f = c.first_in-first in
     let a = c.args in
-    sheet-is a.setting a.chart.now a.x a.y c.graph-graphed.result (graphs-of _ _ _ c.graph-graphed.ensures) c.in-Ok.g c.in-Ok.is f.result f.ensures c.sheet_of-sheet.result c.sheet_of-sheet.ensures
+    sheet-is a.setting a.chart.now a.x a.y c.graph-graphed.result (is-answer _ _ _ c.graph-graphed.ensures) c.in-Ok.g c.in-Ok.is f.result f.ensures c.sheet_of-sheet.result c.sheet_of-sheet.ensures
 
 pub sheet_of-sheet-requires : goal.sheet_of-sheet-requires
 sheet_of-sheet-requires c =
     let w = c.args.setting in
     let s = c.args.chart.now in
-    let a = graphs-of _ _ _ c.graph-graphed.ensures in
+    let a = is-answer _ _ _ c.graph-graphed.ensures in
     record {
       seated = seated w s c.graph-graphed.result a c.in-Ok.g c.in-Ok.is c.first_in-first.result c.first_in-first.ensures;
       first_columns = firsts-are w s c.graph-graphed.result a c.in-Ok.g c.in-Ok.is c.first_in-first.result c.first_in-first.ensures;
@@ -33,7 +33,7 @@ sheet_of-sheet-requires c =
 pub returns-in-Err : goal.returns-in-Err
 returns-in-Err c =
     let a = c.args in
-    place-refused a.setting a.chart.now a.x a.y _ (sheet-refused a.setting a.chart.now a.x a.y c.graph-graphed.result (graphs-of _ _ _ c.graph-graphed.ensures) _ c.in-Err.is) a.k a.i _ refl
+    place-refused a.setting a.chart.now a.x a.y _ (sheet-refused a.setting a.chart.now a.x a.y c.graph-graphed.result (is-answer _ _ _ c.graph-graphed.ensures) _ c.in-Err.is) a.k a.i _ refl
 
 pub returns-in-Err-sheet : goal.returns-in-Err-sheet
 returns-in-Err-sheet c =
@@ -43,12 +43,12 @@ returns-in-Err-sheet c =
 pub returns-then-g-k : goal.returns-then-g-k
 returns-then-g-k c =
     let a = c.args in
-    place-past a.setting a.chart.now a.x a.y c.sheet_of-sheet.result (laid (goal.at.returns-then-g-k c).After-sheet_of-sheet) c.graph-graphed.result (graphs-of _ _ _ c.graph-graphed.ensures) c.in-Ok.g c.in-Ok.is c.in-Ok-sheet.laid c.in-Ok-sheet.is a.k a.i
+    place-past a.setting a.chart.now a.x a.y c.sheet_of-sheet.result (laid (goal.at.returns-then-g-k c).After-sheet_of-sheet) c.graph-graphed.result (is-answer _ _ _ c.graph-graphed.ensures) c.in-Ok.g c.in-Ok.is c.in-Ok-sheet.laid c.in-Ok-sheet.is a.k a.i
     c.if-g-k.true
 
 -- the graph can be laid out, and a box of it is one of 48
 seat : (c : Else-g-k) → Seated c.in-Ok.g
-seat c = seated c.args.setting c.args.chart.now c.graph-graphed.result (graphs-of _ _ _ c.graph-graphed.ensures) c.in-Ok.g c.in-Ok.is c.first_in-first.result c.first_in-first.ensures
+seat c = seated c.args.setting c.args.chart.now c.graph-graphed.result (is-answer _ _ _ c.graph-graphed.ensures) c.in-Ok.g c.in-Ok.is c.first_in-first.result c.first_in-first.ensures
 
 few : (c : Else-g-k) → c.args.k < 48
 few c = omega (arith, c.if-g-k.false, (seat c).linked.nodes)
@@ -63,7 +63,7 @@ pub label_at-requires : goal.label_at-requires
 label_at-requires c =
     let a = c.args in
     let p = goal.at.label_at-requires c in
-    let z = sited a.setting a.chart.now a.x a.y c.sheet_of-sheet.result (laid p.After-sheet_of-sheet) c.graph-graphed.result (graphs-of _ _ _ c.graph-graphed.ensures) c.in-Ok.g c.in-Ok.is c.in-Ok-sheet.laid c.in-Ok-sheet.is a.k c.if-g-k.false in
+    let z = sited a.setting a.chart.now a.x a.y c.sheet_of-sheet.result (laid p.After-sheet_of-sheet) c.graph-graphed.result (is-answer _ _ _ c.graph-graphed.ensures) c.in-Ok.g c.in-Ok.is c.in-Ok-sheet.laid c.in-Ok-sheet.is a.k c.if-g-k.false in
     record { seated = seat p.Else-g-k; p_lt_n = c.if-g-k.false; x_bound = z.0; y_bound = z.1 }
 
 -- what `label_at` finds is the label, or that there is none
@@ -71,9 +71,9 @@ found : (c : After-label_at) → let a = c.args in label_place_of (ready_or_15 c
 found c =
     let a = c.args in
     let f = c.first_in-first in
-    let g = graphs-of _ _ _ c.graph-graphed.ensures in
+    let g = is-answer _ _ _ c.graph-graphed.ensures in
     let m = sheet-is a.setting a.chart.now a.x a.y c.graph-graphed.result g c.in-Ok.g c.in-Ok.is f.result f.ensures c.sheet_of-sheet.result c.sheet_of-sheet.ensures in
-    place_answer a.setting a.chart.now a.x a.y c.sheet_of-sheet.result m c.graph-graphed.result (graphs-of _ _ _ c.graph-graphed.ensures) c.in-Ok.g c.in-Ok.is c.in-Ok-sheet.laid c.in-Ok-sheet.is a.k a.i c.if-g-k.false
+    place_answer a.setting a.chart.now a.x a.y c.sheet_of-sheet.result m c.graph-graphed.result (is-answer _ _ _ c.graph-graphed.ensures) c.in-Ok.g c.in-Ok.is c.in-Ok-sheet.laid c.in-Ok-sheet.is a.k a.i c.if-g-k.false
     c.label_at.result c.label_at.ensures
 
 pub returns : goal.returns

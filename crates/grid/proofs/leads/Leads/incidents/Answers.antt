@@ -32,25 +32,25 @@ bounds-bounds-p-2 c = omega (arith, below (goal.at.bounds-bounds-p-2 c).After-se
 pub slice_bounds-result-count : goal.slice_bounds-result-count
 slice_bounds-result-count c =
     let i = c.self.inside in
-    rise i.nodes i.to.items i.bounds c.self.invariant c.args.p (node (goal.at.slice_bounds-result-count c).After-self)
+    rise i.nodes i.to.items i.bounds c.self.invariant.rising c.args.p (node (goal.at.slice_bounds-result-count c).After-self)
 
 pub slice_bounds-result-start : goal.slice_bounds-result-start
 slice_bounds-result-start c =
     let i = c.self.inside in
-    rise i.nodes i.to.items i.bounds c.self.invariant c.args.p (node (goal.at.slice_bounds-result-start c).After-self)
+    rise i.nodes i.to.items i.bounds c.self.invariant.rising c.args.p (node (goal.at.slice_bounds-result-start c).After-self)
 
 pub slice_bounds-result-end : goal.slice_bounds-result-end
 slice_bounds-result-end c =
     let i = c.self.inside in
-    few i.nodes i.to.items i.bounds c.self.invariant c.args.p (node (goal.at.slice_bounds-result-end c).After-self)
+    few i.nodes i.to.items i.bounds c.self.invariant.rising c.args.p (node (goal.at.slice_bounds-result-end c).After-self) c.self.invariant.few
 
 pub returns-clause-are : goal.returns-clause-are
 returns-clause-are c =
     let i = c.self.inside in
-    sym (are i.nodes i.to.items i.bounds c.self.invariant c.args.p (node (goal.at.returns-clause-are c).After-self)) ∙ ap (λ g. incidents g c.args.p) c.self.view_is
+    sym (are i.nodes i.to.items i.bounds c.self.invariant.rising c.args.p (node (goal.at.returns-clause-are c).After-self)) ∙ ap (λ g. incidents g c.args.p) c.self.view_is
 
 pub returns-clause-nodes : goal.returns-clause-nodes
 returns-clause-nodes c =
     let i = c.self.inside in
     let e = sym (leads-long i.nodes i.to.items i.bounds) ∙ ap length c.self.view_is in
-    rw (← e) (to-nodes i.nodes i.to.items i.bounds c.self.invariant c.args.p (node (goal.at.returns-clause-nodes c).After-self))
+    rw (← e) (to-nodes i.nodes i.to.items i.bounds c.self.invariant.rising c.args.p (node (goal.at.returns-clause-nodes c).After-self) c.self.invariant.node)

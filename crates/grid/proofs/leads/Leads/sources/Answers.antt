@@ -32,9 +32,9 @@ bounds-bounds-p-2 c = omega (arith, below (goal.at.bounds-bounds-p-2 c).After-se
 pub overflow_sub-result : goal.overflow_sub-result
 overflow_sub-result c =
     let i = c.self.inside in
-    led-sources i.nodes i.to.items i.bounds c.self.invariant c.args.p (node (goal.at.overflow_sub-result c).After-self)
+    led-sources i.nodes i.to.items i.bounds c.self.invariant.rising c.args.p (node (goal.at.overflow_sub-result c).After-self)
 
 pub returns : goal.returns
 returns c =
     let i = c.self.inside in
-    sym (sources-long i.nodes i.to.items i.bounds c.self.invariant c.args.p (node (goal.at.returns c).After-self)) ∙ ap (λ g. length (incidents_at g c.args.p).sources) c.self.view_is
+    sym (sources-long i.nodes i.to.items i.bounds c.self.invariant.rising c.args.p (node (goal.at.returns c).After-self) c.self.invariant.few c.self.invariant.long) ∙ ap (λ g. length (incidents_at g c.args.p).sources) c.self.view_is
